@@ -1,0 +1,13 @@
+-- What a reader of the promises has to believe, in the order in which it is read.
+pub mod Lists
+pub mod Book
+pub mod Releases
+pub mod Pieces
+pub mod Fits
+pub mod Owed
+pub mod Step
+pub mod Steps
+pub mod Order
+pub mod Calls
+pub mod Load
+pub mod Kept

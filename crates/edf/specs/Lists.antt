@@ -1,0 +1,48 @@
+-- Sums and statements over a list and over a stretch of instants: the words in which all else is said.
+use mathlib.Core.Logic.{_⊎_}
+use mathlib.Core.Bool.{Bool, true, false, cond}
+use mathlib.Core.List.{List, [], _∷_}
+use Prim.Native.Nat.{ℕ, zero, suc, _+_}
+use lib.Dec.{eqb}
+
+-- a test as a number: 1 where it holds
+abbrev pub bit : Bool → ℕ
+bit true = 1
+bit false = 0
+
+-- 1 where the two numbers are the same, 0 otherwise
+unfoldable pub eq : ℕ → ℕ → ℕ
+eq m n = bit (eqb m n)
+
+module _ {A : Type 0} where
+  -- f added up over the list
+  abbrev pub total : (A → ℕ) → List A → ℕ
+  total f [] = 0
+  total f (x ∷ xs) = f x + total f xs
+
+  -- P holds of each element
+  abbrev pub Each : (A → Type 0) → List A → Type 0
+  Each P [] = Unit {0}
+  Each P (x ∷ xs) = P x × Each P xs
+
+  -- P holds of some element
+  abbrev pub Some : (A → Type 0) → List A → Type 0
+  Some P [] = ⊥
+  Some P (x ∷ xs) = P x ⊎ Some P xs
+
+  -- the elements that pass the test, in their order
+  abbrev pub keep : (A → Bool) → List A → List A
+  keep p [] = []
+  keep p (x ∷ xs) = cond (p x) (x ∷ keep p xs) (keep p xs)
+
+  -- the two lists are as long as each other, and R holds of each two that stand at the same place
+  abbrev pub Pairs : (A → A → Type 0) → List A → List A → Type 0
+  Pairs R [] [] = Unit {0}
+  Pairs R [] (y ∷ ys) = ⊥
+  Pairs R (x ∷ xs) [] = ⊥
+  Pairs R (x ∷ xs) (y ∷ ys) = R x y × Pairs R xs ys
+
+-- f added up over the n instants from the instant a on
+abbrev pub during : (ℕ → ℕ) → ℕ → ℕ → ℕ
+during f a zero = 0
+during f a (suc n) = f a + during f (suc a) n
