@@ -6,7 +6,7 @@ use Prim.Native.Nat.{ℕ, _+_, _≤_}
 use native.Mathlib.Nat.{le-refl, le-trans}
 use native.Mathlib.Omega.{arith}
 use lib.Dec.{eqb}
-use Rattle.edf.specs.Lists.{eq, total}
+use Rattle.lists.specs.Lists.{eq, total}
 use Rattle.edf.specs.Book.{Feed, Job, Book}
 use Rattle.edf.specs.Releases.{currentDue}
 use Rattle.edf.specs.Pieces.{jobPiece}
@@ -14,8 +14,8 @@ use Rattle.edf.specs.Fits.{Fits}
 use Rattle.edf.specs.Owed.{dueBy, Room}
 use Rattle.edf.specs.Order.{FeedInOrder, JobInOrder, InOrder}
 use Rattle.edf.specs.Calls.{taking, ending, restFeed, resting, Askable, Call, asked, stepped, ended, rested, Right, after, run, AllRight}
-use Rattle.edf.proofs.Lists.{each, each-imp, each-append, each-map, each-keep, total-mono, total-append, total-map, total-keep-le}
-use Rattle.edf.proofs.Names.{eqb-elim, eq-elim}
+use Rattle.lists.proofs.Lists.{each, each-imp, each-append, each-map, each-keep, total-mono, total-append, total-map, total-keep-le}
+use Rattle.lists.proofs.Tests.{eqb-elim, eq-elim}
 use Rattle.edf.proofs.Demand.{byThen-mono, feedOwes}
 use Rattle.edf.proofs.Tick.{owedBy-split}
 use Rattle.edf.proofs.Sound.{Sound, light-map, step-is-sound}

@@ -4,16 +4,17 @@ use mathlib.Core.List.{map}
 use Prim.Native.Nat.{ℕ, zero, suc, min, _+_, _-_, _*_, _≤_, _<_}
 use native.Mathlib.Nat.{le-refl, le-trans, le-min, min-eq-right}
 use native.Mathlib.Omega.{arith}
-use Rattle.edf.specs.Lists.{total, Each, during}
+use Rattle.lists.specs.Lists.{total, Each}
+use Rattle.edf.specs.Instants.{during}
 use Rattle.edf.specs.Book.{Feed, Job, Book, Who, job, feed, idle, same}
 use Rattle.edf.specs.Releases.{next, laterFrom}
 use Rattle.edf.specs.Pieces.{Piece, jobPiece, currentPiece, laterPiece, atHand}
 use Rattle.edf.specs.Fits.{Choice, goesTo, gets, Served, Serves, Fits}
 use Rattle.edf.specs.Owed.{dueBy, laterCount, owedBy, Room}
 use Rattle.edf.specs.Order.{InOrder}
-use Rattle.edf.proofs.Lists.{each, each-imp, each-both, each-left, each-right, each-of-map, each-for, total-mono, total-zero}
+use Rattle.lists.proofs.Lists.{each, each-imp, each-both, each-left, each-right, each-of-map, each-for, total-mono, total-zero}
 use Rattle.edf.proofs.Instants.{during-mono, during-le, during-within, during-then, during-total}
-use Rattle.edf.proofs.Names.{eq-elim}
+use Rattle.lists.proofs.Tests.{eq-elim}
 use Rattle.edf.proofs.Releases.{since-lt}
 use Rattle.edf.proofs.Demand.{byThen-elim, laterCount-counts, feedOwes}
 use Rattle.edf.proofs.Tick.{hand-total, owedBy-split}

@@ -12,7 +12,7 @@ use Rattle.edf.specs.Pieces.{currentPiece}
 use Rattle.edf.specs.Owed.{byThen, dueBy, laterCount, laterBy}
 use Rattle.edf.specs.Step.{turned, turnFeed}
 use Rattle.edf.specs.Load.{stretch}
-use Rattle.edf.proofs.Names.{leb-elim, eqb-elim}
+use Rattle.lists.proofs.Tests.{leb-elim, eqb-elim}
 use Rattle.edf.proofs.Releases.{since-lt, since-suc}
 
 pub byThen-elim : (P : ℕ → Type 0) (D due n : ℕ) → (due ≤ D → P n) → (D < due → P 0) → P (byThen D due n)

@@ -4,7 +4,7 @@ use mathlib.Core.List.{List, [], _∷_}
 use Prim.Native.Nat.{ℕ, zero, suc}
 use native.Mathlib.Omega.{arith}
 use lib.Dec.{lit<}
-use Rattle.edf.specs.Lists.{eq}
+use Rattle.lists.specs.Lists.{eq}
 use Rattle.edf.specs.Book.{Feed, Job, Book, Who, job, feed, idle, same}
 use Rattle.edf.specs.Releases.{since}
 use Rattle.edf.specs.Fits.{Fits}

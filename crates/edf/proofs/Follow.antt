@@ -8,15 +8,16 @@ use Prim.Native.Nat.{ℕ, suc, _+_, _-_, _*_, _≤_, _<_}
 use native.Mathlib.Decide.{decLe}
 use native.Mathlib.Omega.{arith}
 use lib.Dec.{ltb}
-use Rattle.edf.specs.Lists.{eq, total, Each, Some}
+use Rattle.lists.specs.Lists.{eq, total, Each, Some}
 use Rattle.edf.specs.Book.{Feed, Job, Book, Who, job, feed, idle, same}
 use Rattle.edf.specs.Releases.{gone, currentDue}
 use Rattle.edf.specs.Pieces.{Piece, jobPiece, currentPiece, atHand}
 use Rattle.edf.specs.Step.{foremost, runner, serveJob, serveFeed, serve, turnFeed, turn, stepBy, step}
 use Rattle.edf.specs.Order.{FeedInOrder, InOrder}
 use Rattle.edf.specs.Kept.{LiveJob, Live, AtPiece, Current}
-use Rattle.edf.proofs.Lists.{each-at, some-imp, some-both, some-get, some-left, some-right, some-map, some-of-map, some-keep, some-of-keep, some-once, some-pick, some-or-each, total-zero}
-use Rattle.edf.proofs.Names.{ltb-says, ltb-true, eq-elim, eq-refl, same-elim, same-refl}
+use Rattle.lists.proofs.Lists.{each-at, some-imp, some-both, some-get, some-left, some-right, some-map, some-of-map, some-keep, some-of-keep, some-once, some-pick, some-or-each, total-zero}
+use Rattle.lists.proofs.Tests.{ltb-says, ltb-true, eq-elim, eq-refl}
+use Rattle.edf.proofs.Names.{same-elim, same-refl}
 use Rattle.edf.proofs.Releases.{since-suc}
 use Rattle.edf.proofs.Demand.{turned-kept}
 use Rattle.edf.proofs.Runner.{Best, Nothing, foremost-best, runner-edf}

@@ -10,7 +10,7 @@ use Rattle.edf.specs.Pieces.{jobPiece}
 use Rattle.edf.specs.Owed.{byThen, dueBy, laterCount, owedBy, Room, RoomBelow}
 use Rattle.edf.specs.Order.{FeedInOrder, InOrder}
 use Rattle.edf.specs.Load.{aRound, Round, Beyond, horizon}
-use Rattle.edf.proofs.Lists.{each, each-imp, each-both, total-mono, total-same, total-add}
+use Rattle.lists.proofs.Lists.{each, each-imp, each-both, total-mono, total-same, total-add}
 use Rattle.edf.proofs.Releases.{since-lt}
 use Rattle.edf.proofs.Demand.{byThen-in, byThen-mono, laterBy-mono, feedOwes}
 use Rattle.edf.proofs.Tick.{owedBy-split}

@@ -4,8 +4,9 @@ use mathlib.Core.List.{List}
 use Prim.Native.Nat.{ℕ, zero, suc, _+_, _-_, _≤_}
 use native.Mathlib.Nat.{le-refl, suc-add, zero-add, add-zero}
 use native.Mathlib.Omega.{arith}
-use Rattle.edf.specs.Lists.{total, during}
-use Rattle.edf.proofs.Lists.{total-add, total-zero, each}
+use Rattle.lists.specs.Lists.{total}
+use Rattle.edf.specs.Instants.{during}
+use Rattle.lists.proofs.Lists.{total-add, total-zero, each}
 
 -- a stretch in two parts
 pub during-append : (f : ℕ → ℕ) (a m n : ℕ) → during f a (m + n) ≡ during f a m + during f (a + m) n

@@ -14,8 +14,9 @@ use Rattle.edf.specs.Step.{runner, ran, step}
 use Rattle.edf.specs.Order.{JobInOrder, InOrder}
 use Rattle.edf.specs.Calls.{taking, ending, restFeed, resting, Call, asked, stepped, ended, rested, after, run, AllRight, names, named, NotEnded, NotRested}
 use Rattle.edf.specs.Kept.{LiveJob, Live, HasLeft, JobKept, AtPiece, Current, PieceKept}
-use Rattle.edf.proofs.Lists.{each-at, some-imp, some-pick, some-left, some-right, some-map, some-keep}
-use Rattle.edf.proofs.Names.{eqb-elim, same-is, same-le}
+use Rattle.lists.proofs.Lists.{each-at, some-imp, some-pick, some-left, some-right, some-map, some-keep}
+use Rattle.lists.proofs.Tests.{eqb-elim}
+use Rattle.edf.proofs.Names.{same-is, same-le}
 use Rattle.edf.proofs.Sound.{Sound, step-is-sound}
 use Rattle.edf.proofs.Follow.{Free, ranNow, runner-is, job-named, feed-named, job-step, feed-step, feed-due, hand-job, job-busy}
 use Rattle.edf.proofs.Service.{step-clock}

@@ -5,7 +5,7 @@ use mathlib.Core.List.{List, [], _∷_, _++_}
 use Prim.Native.Nat.{ℕ, _*_, _≤_}
 use native.Mathlib.Nat.{le-refl, le-trans, mul-le-mul-right}
 use native.Mathlib.Omega.{arith}
-use Rattle.edf.specs.Lists.{eq, total, Each, Some, Pairs}
+use Rattle.lists.specs.Lists.{eq, total, Each, Some, Pairs}
 use Rattle.edf.specs.Book.{Feed, Job, Book}
 use Rattle.edf.specs.Releases.{currentDue}
 use Rattle.edf.specs.Fits.{Fits}
@@ -13,8 +13,8 @@ use Rattle.edf.specs.Owed.{byThen, laterBy, owedBy, Room}
 use Rattle.edf.specs.Order.{InOrder}
 use Rattle.edf.specs.Calls.{taking, Askable}
 use Rattle.edf.specs.Load.{stretch, Light, FeedLess, JobLess, Less}
-use Rattle.edf.proofs.Lists.{each, each-imp, each-append, some-imp, some-le-total, some-left, some-right, total-mono, total-scale, total-swap}
-use Rattle.edf.proofs.Names.{eq-refl}
+use Rattle.lists.proofs.Lists.{each, each-imp, each-append, some-imp, some-le-total, some-left, some-right, total-mono, total-scale, total-swap}
+use Rattle.lists.proofs.Tests.{eq-refl}
 use Rattle.edf.proofs.Demand.{byThen-mono, feedOwes}
 use Rattle.edf.proofs.Tick.{owedBy-split}
 use Rattle.edf.proofs.Counted.{fits-has-room}

@@ -1,4 +1,3 @@
-pub mod Lists
 pub mod Instants
 pub mod Names
 pub mod Releases

@@ -5,14 +5,14 @@ use mathlib.Core.List.{List}
 use Prim.Native.Nat.{ℕ, _+_, _-_, _*_, _/_, _≤_, _<_}
 use native.Mathlib.Nat.{le-refl, mul-le-mul-left, sub-zero}
 use native.Mathlib.Omega.{arith}
-use Rattle.edf.specs.Lists.{eq, total, Each}
+use Rattle.lists.specs.Lists.{eq, total, Each}
 use Rattle.edf.specs.Book.{Feed}
 use Rattle.edf.specs.Releases.{gone, currentDue}
 use Rattle.edf.specs.Owed.{byThen, laterBy, Room}
 use Rattle.edf.specs.Order.{FeedInOrder}
 use Rattle.edf.specs.Load.{stretch, Light, openedFeed, opened}
-use Rattle.edf.proofs.Lists.{each-imp, each-map, total-mono, total-map}
-use Rattle.edf.proofs.Names.{eqb-elim}
+use Rattle.lists.proofs.Lists.{each-imp, each-map, total-mono, total-map}
+use Rattle.lists.proofs.Tests.{eqb-elim}
 use Rattle.edf.proofs.Releases.{since-lt, since-early}
 use Rattle.edf.proofs.Demand.{byThen-le, feedOwes, piece-and-later, div-mono}
 use Rattle.edf.proofs.Tick.{owedBy-split}

@@ -4,7 +4,7 @@ use mathlib.Core.Bool.{true, false, cond}
 use mathlib.Core.List.{List, [], _∷_, _++_}
 use Prim.Native.Nat.{ℕ, suc, pred, _+_, _≤_, _<_}
 use native.Mathlib.Omega.{arith}
-use Rattle.edf.specs.Lists.{Some}
+use Rattle.lists.specs.Lists.{Some}
 use Rattle.edf.specs.Book.{Feed, Job, Book, Who, job, feed}
 use Rattle.edf.specs.Releases.{gone}
 use Rattle.edf.specs.Pieces.{jobPiece, currentPiece}
@@ -14,8 +14,9 @@ use Rattle.edf.specs.Order.{InOrder}
 use Rattle.edf.specs.Calls.{taking, ending, restFeed, resting, Askable, Call, asked, stepped, ended, rested, after, run, AllRight, names, named, NotEnded, NotRested}
 use Rattle.edf.specs.Load.{Opens, openedFeed, opened, Less}
 use Rattle.edf.specs.Kept.{LiveJob, StillLive, JobKept, AtPiece, Current, PieceKept}
-use Rattle.edf.proofs.Lists.{each-at, some-imp, some-map, some-pick}
-use Rattle.edf.proofs.Names.{same-refl, eqb-elim}
+use Rattle.lists.proofs.Lists.{each-at, some-imp, some-map, some-pick}
+use Rattle.lists.proofs.Tests.{eqb-elim}
+use Rattle.edf.proofs.Names.{same-refl}
 use Rattle.edf.proofs.Sound.{Sound, step-is-sound}
 use Rattle.edf.proofs.Follow.{ranNow, runner-is, hand-job, hand-feed, job-busy, feed-busy}
 use Rattle.edf.proofs.Service.{step-clock, Kin, Has, has-step, released-step, fresh-piece}

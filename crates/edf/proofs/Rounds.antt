@@ -4,10 +4,10 @@ use mathlib.Core.List.{List}
 use Prim.Native.Nat.{ℕ, zero, suc, _+_, _-_, _*_, _/_, _%_, _≤_, _<_, _∣_}
 use native.Mathlib.Nat.{mul-le-mul-left, mul-le-mul-right, le-of-mul-le-mul-right, mul-div-cancel', div-mul-le-self, add-mul-div-left, mod-add-div', mod-lt}
 use native.Mathlib.Omega.{arith}
-use Rattle.edf.specs.Lists.{total, Each}
+use Rattle.lists.specs.Lists.{total, Each}
 use Rattle.edf.specs.Book.{Feed}
 use Rattle.edf.specs.Load.{stretch, Light, aRound, Round}
-use Rattle.edf.proofs.Lists.{each-imp, each-both, total-mono, total-same, total-add, total-scale}
+use Rattle.lists.proofs.Lists.{each-imp, each-both, total-mono, total-same, total-add, total-scale}
 
 -- so many pieces in L ticks are at the rate of the round
 stretch-rate : (R L : ℕ) (f : Feed) → f .lead ≡ f .period → f .period ∣ R → stretch L f * R ≤ aRound R f * L

@@ -6,12 +6,12 @@ use mathlib.Core.List.{List, [], _∷_}
 use Prim.Native.Nat.{ℕ, _≤_, _<_}
 use native.Mathlib.Omega.{arith}
 use lib.Dec.{T, leb, eqb}
-use Rattle.edf.specs.Lists.{Each, Some}
+use Rattle.lists.specs.Lists.{Each, Some}
 use Rattle.edf.specs.Book.{Book, Who, job, feed, idle}
 use Rattle.edf.specs.Pieces.{Piece, atHand}
 use Rattle.edf.specs.Step.{kind, numberOf, first, sooner, goesBefore, nobody, foremost, runner, Foremost, Edf}
-use Rattle.edf.proofs.Lists.{each-imp, some-imp, some-both, some-get}
-use Rattle.edf.proofs.Names.{leb-elim, ltb-elim, eqb-elim}
+use Rattle.lists.proofs.Lists.{each-imp, some-imp, some-both, some-get}
+use Rattle.lists.proofs.Tests.{leb-elim, ltb-elim, eqb-elim}
 
 first-elim : (P : Bool → Type 0) (a b : ℕ) (r : Bool) → (a < b → P true) → (a ≡ b → P r) → (b < a → P false) → P (first a b r)
 unfolding first

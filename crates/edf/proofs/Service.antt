@@ -7,7 +7,8 @@ use Prim.Native.Nat.{ℕ, zero, suc, _+_, _-_, _*_, _≤_}
 use native.Mathlib.Nat.{add-zero, add-sub-cancel-left}
 use native.Mathlib.Omega.{arith}
 use lib.Dec.{ltb}
-use Rattle.edf.specs.Lists.{eq, Each, Some, during}
+use Rattle.lists.specs.Lists.{eq, Each, Some}
+use Rattle.edf.specs.Instants.{during}
 use Rattle.edf.specs.Book.{Feed, Job, Book, Who, job, feed, idle, same}
 use Rattle.edf.specs.Releases.{gone, currentDue, laterFrom}
 use Rattle.edf.specs.Pieces.{Piece, jobPiece, currentPiece, laterPiece, atHand}
@@ -15,8 +16,9 @@ use Rattle.edf.specs.Fits.{Choice, goesTo, gets, Served, Fits}
 use Rattle.edf.specs.Step.{owing, runner, serveJob, serveFeed, serve, turnFeed, turn, stepBy, step, foremost}
 use Rattle.edf.specs.Steps.{steps, nameOf, byDesk}
 use Rattle.edf.specs.Order.{FeedInOrder, JobInOrder}
-use Rattle.edf.proofs.Lists.{each-imp, each-both, each-self, each-at, some-imp, some-get, some-pick, some-append, some-map, some-of-map, some-le-total, total-map, total-keep-le}
-use Rattle.edf.proofs.Names.{eq-refl, same-not}
+use Rattle.lists.proofs.Lists.{each-imp, each-both, each-self, each-at, some-imp, some-get, some-pick, some-append, some-map, some-of-map, some-le-total, total-map, total-keep-le}
+use Rattle.lists.proofs.Tests.{eq-refl}
+use Rattle.edf.proofs.Names.{same-not}
 use Rattle.edf.proofs.Releases.{since-lt, since-later}
 use Rattle.edf.proofs.Demand.{turned-released}
 use Rattle.edf.proofs.Runner.{Best, Nothing, foremost-best}

@@ -8,7 +8,7 @@ use native.Mathlib.Nat.{le-trans}
 use native.Mathlib.Decide.{decLe}
 use native.Mathlib.Omega.{arith}
 use lib.Dec.{ltb}
-use Rattle.edf.specs.Lists.{eq, total, Each}
+use Rattle.lists.specs.Lists.{eq, total, Each}
 use Rattle.edf.specs.Book.{Feed, Job, Book, Who, job, feed, same}
 use Rattle.edf.specs.Releases.{gone, currentDue}
 use Rattle.edf.specs.Pieces.{jobPiece}
@@ -16,8 +16,8 @@ use Rattle.edf.specs.Owed.{byThen, dueBy, owedBy, Room}
 use Rattle.edf.specs.Step.{owing, serveJob, serveFeed, serve, turned, turnFeed, turn, stepBy, step, runner, Edf}
 use Rattle.edf.specs.Order.{FeedInOrder, JobInOrder, InOrder}
 use Rattle.edf.specs.Load.{stretch, Light}
-use Rattle.edf.proofs.Lists.{each, each-imp, each-map, each-keep, each-of-total-zero, total-zero, total-map, total-same, total-keep-le}
-use Rattle.edf.proofs.Names.{ltb-says}
+use Rattle.lists.proofs.Lists.{each, each-imp, each-map, each-keep, each-of-total-zero, total-zero, total-map, total-same, total-keep-le}
+use Rattle.lists.proofs.Tests.{ltb-says}
 use Rattle.edf.proofs.Releases.{since-early, since-suc}
 use Rattle.edf.proofs.Demand.{
   byThen-elim,

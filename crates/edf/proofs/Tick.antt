@@ -6,13 +6,13 @@ use Prim.Native.Nat.{ℕ, zero, suc, _+_, _-_, _≤_, _<_}
 use native.Mathlib.Nat.{le-refl, le-trans}
 use native.Mathlib.Omega.{arith}
 use lib.Dec.{ltb}
-use Rattle.edf.specs.Lists.{total, Each, Some}
+use Rattle.lists.specs.Lists.{total, Each, Some}
 use Rattle.edf.specs.Book.{Book, Who, same}
 use Rattle.edf.specs.Pieces.{Piece, jobPiece, currentPiece, atHand}
 use Rattle.edf.specs.Owed.{byThen, dueBy, laterBy, owedBy}
 use Rattle.edf.specs.Step.{serveJob, serveFeed, serve, turnFeed, turn, Foremost, Edf}
 use Rattle.edf.specs.Load.{stretch, Light}
-use Rattle.edf.proofs.Lists.{each-imp, each-map, each-append, some-imp, some-both, some-get, some-or-each, total-mono, total-zero, total-add, total-append, total-map, total-keep-le, total-falls, each}
+use Rattle.lists.proofs.Lists.{each-imp, each-map, each-append, some-imp, some-both, some-get, some-or-each, total-mono, total-zero, total-add, total-append, total-map, total-keep-le, total-falls, each}
 use Rattle.edf.proofs.Names.{same-refl}
 use Rattle.edf.proofs.Demand.{byThen-in, byThen-due, byThen-mono, laterBy-le-stretch, feedOwes, turnFeed-owes}
 

@@ -1,7 +1,7 @@
 -- The book: the desk as plain mathematics.
 use mathlib.Core.List.{List}
 use Prim.Native.Nat.{ℕ}
-use Rattle.edf.specs.Lists.{eq}
+use Rattle.lists.specs.Lists.{eq}
 
 -- a feed of layers: a printer's piece comes every `period` ticks, at the instants that leave the remainder `offset`,
 -- wants `work` ticks, and is due `lead` ticks after it came; `owes` is what the piece that came last still wants

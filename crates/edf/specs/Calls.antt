@@ -5,7 +5,7 @@ use mathlib.Core.Bool.{Bool, true, not, cond}
 use mathlib.Core.List.{List, [], _∷_, _++_, map}
 use Prim.Native.Nat.{ℕ, _+_}
 use lib.Dec.{eqb}
-use Rattle.edf.specs.Lists.{eq, total, keep}
+use Rattle.lists.specs.Lists.{eq, total, keep}
 use Rattle.edf.specs.Book.{Feed, Job, Book, Who, same}
 use Rattle.edf.specs.Fits.{Fits}
 use Rattle.edf.specs.Order.{JobInOrder}

@@ -1,7 +1,8 @@
 -- Fits, in the words of the rules: for every instant F after the clock there is a choice, for each tick, of at most one
 -- piece of work, such that every piece due at or before F gets all it still owes inside its own ticks.
 use Prim.Native.Nat.{ℕ, _-_, _*_, _≤_, _<_}
-use Rattle.edf.specs.Lists.{eq, Each, during}
+use Rattle.lists.specs.Lists.{eq, Each}
+use Rattle.edf.specs.Instants.{during}
 use Rattle.edf.specs.Book.{Book, Who, same}
 use Rattle.edf.specs.Pieces.{Piece, laterPiece, atHand}
 

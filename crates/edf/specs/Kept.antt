@@ -3,7 +3,7 @@ use mathlib.Core.Path.{_≡_}
 use mathlib.Core.Logic.{_⊎_}
 use mathlib.Core.List.{List, [], _∷_, _++_}
 use Prim.Native.Nat.{ℕ, _+_, _≤_, _<_}
-use Rattle.edf.specs.Lists.{Some}
+use Rattle.lists.specs.Lists.{Some}
 use Rattle.edf.specs.Book.{Feed, Job, Book, job, feed}
 use Rattle.edf.specs.Releases.{currentDue}
 use Rattle.edf.specs.Step.{ran}

@@ -1,5 +1,5 @@
 -- What a reader of the promises has to believe, in the order in which it is read.
-pub mod Lists
+pub mod Instants
 pub mod Book
 pub mod Releases
 pub mod Pieces

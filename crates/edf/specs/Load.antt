@@ -4,7 +4,7 @@ use mathlib.Core.Bool.{cond}
 use mathlib.Core.List.{List, [], map}
 use Prim.Native.Nat.{ℕ, _+_, _-_, _*_, _/_, _≤_, _<_, _∣_}
 use lib.Dec.{eqb}
-use Rattle.edf.specs.Lists.{eq, total, Each, Some, Pairs}
+use Rattle.lists.specs.Lists.{eq, total, Each, Some, Pairs}
 use Rattle.edf.specs.Book.{Feed, Job, Book}
 use Rattle.edf.specs.Releases.{gone, next}
 use Rattle.edf.specs.Step.{owing}

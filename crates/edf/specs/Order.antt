@@ -1,7 +1,7 @@
 -- A book in order.
 use mathlib.Core.Path.{_≡_}
 use Prim.Native.Nat.{ℕ, _≤_, _<_}
-use Rattle.edf.specs.Lists.{eq, total, Each}
+use Rattle.lists.specs.Lists.{eq, total, Each}
 use Rattle.edf.specs.Book.{Feed, Job, Book}
 use Rattle.edf.specs.Releases.{gone}
 

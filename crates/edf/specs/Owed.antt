@@ -2,7 +2,7 @@
 use mathlib.Core.Bool.{cond}
 use Prim.Native.Nat.{ℕ, _+_, _-_, _*_, _/_, _≤_, _<_}
 use lib.Dec.{leb}
-use Rattle.edf.specs.Lists.{total}
+use Rattle.lists.specs.Lists.{total}
 use Rattle.edf.specs.Book.{Feed, Book}
 use Rattle.edf.specs.Releases.{gone}
 use Rattle.edf.specs.Pieces.{Piece, atHand}

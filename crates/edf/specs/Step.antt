@@ -6,7 +6,7 @@ use mathlib.Core.Bool.{Bool, cond, _&&_, _||_}
 use mathlib.Core.List.{List, [], _∷_, map}
 use Prim.Native.Nat.{ℕ, suc, pred, _-_, _≤_, _<_}
 use lib.Dec.{leb, ltb, eqb}
-use Rattle.edf.specs.Lists.{Each, Some, keep}
+use Rattle.lists.specs.Lists.{Each, Some, keep}
 use Rattle.edf.specs.Book.{Feed, Job, Book, Who, job, feed, idle, same}
 use Rattle.edf.specs.Releases.{gone}
 use Rattle.edf.specs.Pieces.{Piece, atHand}

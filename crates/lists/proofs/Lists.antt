@@ -6,10 +6,8 @@ use mathlib.Core.List.{List, [], _∷_, _++_, map}
 use Prim.Native.Nat.{ℕ, zero, suc, _+_, _*_, _≤_}
 use native.Mathlib.Nat.{le-refl, zero-mul}
 use native.Mathlib.Omega.{arith}
-use Rattle.edf.specs.Lists.{total, Each, Some, keep}
-
-pub false-not-true : false ≡ true → ⊥
-false-not-true p = let n : _≡_ {A = ℕ} 0 1 = cc in omega arith
+use Rattle.lists.proofs.Tests.{false-not-true}
+use Rattle.lists.specs.Lists.{total, Each, Some, keep}
 
 module _ {A : Type 0} where
   pub each : (P : A → Type 0) → ((x : A) → P x) → (xs : List A) → Each P xs

@@ -1,9 +1,10 @@
--- Sums and statements over a list and over a stretch of instants: the words in which all else is said.
+-- Sums, tests and statements over a list.
 use mathlib.Core.Logic.{_⊎_}
-use mathlib.Core.Bool.{Bool, true, false, cond}
-use mathlib.Core.List.{List, [], _∷_}
-use Prim.Native.Nat.{ℕ, zero, suc, _+_}
+use mathlib.Core.Bool.{Bool, true, false, cond, _&&_}
+use mathlib.Core.List.{List, [], _∷_, _++_}
+use Prim.Native.Nat.{ℕ, _+_, _-_}
 use lib.Dec.{eqb}
+use lib.ListN.{length, replicate}
 
 -- a test as a number: 1 where it holds
 abbrev pub bit : Bool → ℕ
@@ -14,7 +15,17 @@ bit false = 0
 unfoldable pub eq : ℕ → ℕ → ℕ
 eq m n = bit (eqb m n)
 
+-- all of these hold
+unfoldable pub allOf : List Bool → Bool
+allOf [] = true
+allOf (b ∷ bs) = b && allOf bs
+
 module _ {A : Type 0} where
+  -- every element passes the test
+  unfoldable pub every : (A → Bool) → List A → Bool
+  every p [] = true
+  every p (x ∷ xs) = p x && every p xs
+
   -- f added up over the list
   abbrev pub total : (A → ℕ) → List A → ℕ
   total f [] = 0
@@ -35,14 +46,13 @@ module _ {A : Type 0} where
   keep p [] = []
   keep p (x ∷ xs) = cond (p x) (x ∷ keep p xs) (keep p xs)
 
+  -- the list at the front of an array of n places, the rest of which is unused
+  abbrev pub filled : ℕ → A → List A → List A
+  filled n none xs = xs ++ replicate (n - length xs) none
+
   -- the two lists are as long as each other, and R holds of each two that stand at the same place
   abbrev pub Pairs : (A → A → Type 0) → List A → List A → Type 0
   Pairs R [] [] = Unit {0}
   Pairs R [] (y ∷ ys) = ⊥
   Pairs R (x ∷ xs) [] = ⊥
   Pairs R (x ∷ xs) (y ∷ ys) = R x y × Pairs R xs ys
-
--- f added up over the n instants from the instant a on
-abbrev pub during : (ℕ → ℕ) → ℕ → ℕ → ℕ
-during f a zero = 0
-during f a (suc n) = f a + during f (suc a) n
