@@ -1,0 +1,107 @@
+-- The places of the table: one more job, one job less, and tables whose unused places are all zero.
+use mathlib.Core.Path.{_≡_, refl, sym, ap, subst, _∙_}
+use mathlib.Core.Bool.{Bool, true, false}
+use lib.Dec.{eqb}
+use borrow.Author.Tests.{eqb-true}
+use mathlib.Core.List.{List, [], _∷_, _++_}
+use Prim.Native.Nat.{ℕ, _+_, _-_, _≤_, _<_}
+use native.Mathlib.Numerals.{add-one}
+use native.Mathlib.Omega.{arith}
+use lib.ListN.{length, take, drop, set, length-append}
+use lib.Seq.{length-take-le, paste}
+use Rattle.ticks.specs.declared.Instant.{Instant}
+use Rattle.lists.specs.Lists.{Each, filled, total, bit}
+use Rattle.lists.proofs.Places.{filled-more, filled-of-unused, filled-without, length-without, take-filled}
+use Rattle.lists.proofs.Lists.{each-append, total-append}
+use Rattle.lists.proofs.Places.{unused-of-filled, each-take, each-drop, total-without}
+use Rattle.jobs.specs.declared.Job.{Job}
+use Rattle.jobs.specs.declared.Table.{Table}
+use Rattle.jobs.specs.Jobs.{noJob, mostJobs, live, tableOf, Kept, times, JobIn, TableIn, JobsIn}
+
+-- a table with zeros in its unused places is kept
+pub kept :
+    (t : Table) → length (t .jobs) ≡ mostJobs → t .count ≤ mostJobs →
+    Each (λ j. j ≡ noJob) (drop (t .count) (t .jobs)) → Kept t
+kept t l h e =
+    let places : t .jobs ≡ filled mostJobs noJob (live t) = filled-of-unused mostJobs (t .count) noJob (t .jobs) l h e in
+    let many : length (live t) ≡ t .count = length-take-le (t .count) (t .jobs) (omega arith) in
+    λ i. record { count = sym many i; jobs = places i }
+
+-- one more job, behind the others
+pub one-more :
+    (t : Table) (j : Job) → Kept t → t .count < mostJobs →
+    _≡_ {A = Table} (record { count = t .count + 1; jobs = set (t .jobs) (t .count) j }) (tableOf (live t ++ (j ∷ [])))
+one-more t j k h =
+    let many : t .count ≡ length (live t) = ap (λ s. s .count) k in
+    let count : t .count + 1 ≡ length (live t ++ (j ∷ [])) = ap (λ n. n + 1) many ∙ sym (length-append (live t) (j ∷ [])) in
+    let places : set (t .jobs) (t .count) j ≡ filled mostJobs noJob (live t ++ (j ∷ [])) =
+    (λ i. set (k i .jobs) (many i) j) ∙ filled-more mostJobs noJob j (live t) (omega arith) in
+    λ i. record { count = count i; jobs = places i }
+
+-- the jobs behind one have moved up, and the last place is free
+pub one-less :
+    (t : Table) (at m : ℕ) → Kept t → t .count ≤ mostJobs → at < t .count → at + m ≡ t .count - 1 →
+    _≡_ {A = Table} (record { count = t .count - 1; jobs = set (paste (t .jobs) at (drop (at + 1) (t .jobs)) m) (t .count - 1) noJob }) (tableOf (take at (live t) ++ drop (at + 1) (live t)))
+one-less t at m k l h e =
+    let xs = live t in
+    let many : t .count ≡ length xs = ap (λ s. s .count) k in
+    let count : t .count - 1 ≡ length (take at xs ++ drop (at + 1) xs) =
+    ap (λ n. n - 1) many ∙ sym (length-without mostJobs noJob xs at (omega arith) (omega arith)) in
+    let places : set (paste (t .jobs) at (drop (at + 1) (t .jobs)) m) (t .count - 1) noJob ≡ filled mostJobs noJob (take at xs ++ drop (at + 1) xs) =
+    (λ i. set (paste (k i .jobs) at (drop (at + 1) (k i .jobs)) m) (many i - 1) noJob)
+    ∙ filled-without mostJobs noJob xs at (omega arith) (omega arith) m (omega arith) in
+    λ i. record { count = count i; jobs = places i }
+
+pub live-of : (js : List Job) → live (tableOf js) ≡ js
+live-of js = take-filled mostJobs noJob js
+
+pub kept-of : (js : List Job) → Kept (tableOf js)
+kept-of js = ap tableOf (sym (live-of js))
+
+-- a table in order, as a list of jobs
+pub jobs-in : (clock : Instant) (t : Table) → length (t .jobs) ≡ mostJobs → TableIn clock t → JobsIn clock (live t)
+jobs-in clock t l h =
+    let many : length (live t) ≡ t .count = length-take-le (t .count) (t .jobs) (omega (arith, h .few)) in
+    record { few = omega (arith, h .few); each = h .each; once = h .once }
+
+pub jobs-in-table : (clock : Instant) (js : List Job) → JobsIn clock js → TableIn clock (tableOf js)
+jobs-in-table clock js h =
+    let p : JobsIn clock (live (tableOf js)) = subst (JobsIn clock) (sym (live-of js)) h in
+    record { few = h .few; each = p .each; once = p .once; unused = unused-of-filled mostJobs noJob js }
+
+pub jobs-in-none : (clock : Instant) → JobsIn clock []
+jobs-in-none clock = record { few = omega arith; each = tt; once = λ n. omega arith }
+
+-- one more job in order, under a number that no live job has
+pub jobs-in-taken :
+    (clock : Instant) (js : List Job) (j : Job) → JobsIn clock js → length js < mostJobs → JobIn clock j →
+    times (j .number) js ≡ 0 → JobsIn clock (js ++ (j ∷ []))
+jobs-in-taken clock js j h l i free =
+    let more : length (js ++ (j ∷ [])) ≡ length js + 1 = length-append js (j ∷ []) in
+    record {
+      few = omega arith;
+      each = each-append (JobIn clock) js (j ∷ []) (h .each) (i, tt);
+      once = λ n. go n (eqb n (j .number)) refl;
+    }
+  where
+    go : (n : ℕ) (b : Bool) → eqb n (j .number) ≡ b → times n (js ++ (j ∷ [])) ≤ 1
+    go n true e =
+        let none : times n js ≡ 0 = ap (λ m. times m js) (eqb-true n (j .number) e) ∙ free in
+        let one : bit (eqb n (j .number)) ≡ 1 = ap bit e in
+        omega (arith, total-append (λ k. bit (eqb n (k .number))) js (j ∷ []))
+    go n false e =
+        let none : bit (eqb n (j .number)) ≡ 0 = ap bit e in
+        omega (arith, total-append (λ k. bit (eqb n (k .number))) js (j ∷ []), h .once n)
+
+-- one job less
+pub jobs-in-without :
+    (clock : Instant) (js : List Job) (at : ℕ) → JobsIn clock js → at < length js →
+    JobsIn clock (take at js ++ drop (at + 1) js)
+jobs-in-without clock js at h l =
+    let less : length (take at js ++ drop (at + 1) js) ≡ length js - 1 = length-without mostJobs noJob js at l (h .few) in
+    record {
+      few = omega (arith, h .few);
+      each = each-append (JobIn clock) (take at js) (drop (at + 1) js) (each-take (JobIn clock) at js (h .each)) (each-drop (JobIn clock) (at + 1) js (h .each));
+      once = λ n.
+          omega (arith, ap (λ k. times n (take at js ++ drop k js)) (add-one at), total-without (λ k. bit (eqb n (k .number))) at js, h .once n);
+    }

@@ -1,0 +1,132 @@
+// Time in whole ticks: the instant and the length, each with its limits, named here and nowhere else.
+// It must not know feeds, jobs or refusals.
+ghost use mathlib.Core.Path.{_≡_};
+ghost use Prim.Native.Nat.{_+_, _≤_, _<_, _^_};
+ghost use lib.Dec.{ltb, leb, eqb};
+ghost use Rattle.ticks.specs.Ticks.{lastInstant, mostJob, mostFeed, within, fromOne, isJob, isFeed, plus, less};
+ghost use Rattle.ticks.specs.Ticks.{instant, ticks};
+
+// A moment that the clock can read; tick t lies between the instants t and t + 1.
+#[repr(C)]
+pub struct Instant(pub u64);
+
+// How many ticks: a work, a period, a lead, an offset.
+#[repr(C)]
+pub struct Length(pub u64);
+
+impl Instant {
+    // The first that the clock can read; an unused place has it too.
+    pub const FIRST: Instant = Instant(0);
+    // The clock goes no further.
+    pub const LAST: Instant = Instant(1099511627776);
+
+    // What the clock reads.
+    pub fn at(reading: u64) -> Instant
+        ensures { λ r. ⌜ r ≡ instant reading ⌝ }
+    {
+        Instant(reading)
+    }
+
+    pub fn last() -> Instant
+        ensures { λ r. ⌜ r ≡ instant lastInstant ⌝ }
+    {
+        Instant::LAST
+    }
+
+    pub fn within(self) -> bool
+        ensures { λ r. ⌜ r ≡ within self ⌝ }
+    {
+        self.0 <= Instant::LAST.0
+    }
+
+    pub fn is_first(self) -> bool
+        ensures { λ r. ⌜ r ≡ eqb (self .0) 0 ⌝ }
+    {
+        self.0 == Instant::FIRST.0
+    }
+
+    pub fn is_after(self, other: Instant) -> bool
+        ensures { λ r. ⌜ r ≡ ltb (other .0) (self .0) ⌝ }
+    {
+        other.0 < self.0
+    }
+
+    pub fn plus(self, by: Length) -> Instant
+        requires { ⌜ self .0 + by .0 < 2 ^ 64 ⌝ }
+        ensures { λ r. ⌜ r ≡ plus self by ⌝ }
+    {
+        Instant(self.0 + by.0)
+    }
+
+    pub fn less(self, earlier: Instant) -> Length
+        requires { ⌜ earlier .0 ≤ self .0 ⌝ }
+        ensures { λ r. ⌜ r ≡ less self earlier ⌝ }
+    {
+        Length(self.0 - earlier.0)
+    }
+}
+
+impl Length {
+    // No ticks at all; an unused place has it too.
+    pub const NONE: Length = Length(0);
+    // The most that a job may want, and the furthest ahead that its deadline may lie when it asks.
+    pub const JOB: Length = Length(65536);
+    // The longest period, the longest piece of a feed, and the longest round.
+    pub const PERIOD: Length = Length(40320);
+
+    // As many ticks as a caller names.
+    pub fn of(count: u32) -> Length
+        ensures { λ r. ⌜ r ≡ ticks count ⌝ }
+    {
+        Length(count as u64)
+    }
+
+    pub fn most_job() -> Length
+        ensures { λ r. ⌜ r ≡ ticks mostJob ⌝ }
+    {
+        Length::JOB
+    }
+
+    pub fn most_period() -> Length
+        ensures { λ r. ⌜ r ≡ ticks mostFeed ⌝ }
+    {
+        Length::PERIOD
+    }
+
+    // From 1 tick up to the most.
+    fn from_one(self, most: Length) -> bool
+        ensures { λ r. ⌜ r ≡ fromOne (most .0) self ⌝ }
+    {
+        if self.0 < 1 {
+            return false;
+        }
+        self.0 <= most.0
+    }
+
+    // A work or a lead that a job may have.
+    pub fn is_job(self) -> bool
+        ensures { λ r. ⌜ r ≡ isJob self ⌝ }
+    {
+        self.from_one(Length::JOB)
+    }
+
+    // A period or a work that a feed may have.
+    pub fn is_feed(self) -> bool
+        ensures { λ r. ⌜ r ≡ isFeed self ⌝ }
+    {
+        self.from_one(Length::PERIOD)
+    }
+
+    // A round that is not too long.
+    pub fn is_round(self) -> bool
+        ensures { λ r. ⌜ r ≡ leb (self .0) mostFeed ⌝ }
+    {
+        self.0 <= Length::PERIOD.0
+    }
+
+    pub fn is_none(self) -> bool
+        ensures { λ r. ⌜ r ≡ eqb (self .0) 0 ⌝ }
+    {
+        self.0 == Length::NONE.0
+    }
+}
