@@ -1,5 +1,5 @@
 -- Laws of the places of an array: those in use, those that are left, and the elements in them.
-use mathlib.Core.Path.{_≡_, refl, sym, ap, subst, _∙_}
+use mathlib.Core.Path.{_≡_, refl, sym, ap, ap₂, subst, _∙_}
 use mathlib.Core.Bool.{Bool, true, false, _&&_}
 use mathlib.Core.List.{List, [], _∷_, _++_, map, append-assoc}
 use Prim.Native.Nat.{ℕ, zero, suc, _+_, _-_, _≤_, _<_}
@@ -8,7 +8,7 @@ use native.Mathlib.Omega.{arith}
 use lib.ListN.{length, getD, take, drop, set, replicate, length-map, length-append, length-replicate, length-drop}
 use lib.ListN.{take-append-drop, drop-of-length-le}
 use lib.Seq.{drop-cons, getD-take, length-take-le, set-at, take-suc, take-at, drop-at, take-append-le, drop-append-le}
-use lib.Seq.{paste}
+use lib.Seq.{paste, set-append-left}
 use Rattle.lists.specs.Lists.{every, Each, total, filled}
 use Rattle.lists.proofs.Tests.{both, both-made}
 
@@ -197,3 +197,35 @@ module _ {A : Type 0} where
   total-without f zero (x ∷ xs) = omega arith
   total-without f (suc at) [] = omega arith
   total-without f (suc at) (x ∷ xs) = let ih : total f (take at xs ++ drop (suc at) xs) ≤ total f xs = total-without f at xs in omega arith
+
+module _ {A : Type 0} where
+  -- the first i elements changed, the others as they were
+  abbrev pub changed : (A → A) → ℕ → List A → List A
+  changed h i xs = map h (take i xs) ++ drop i xs
+
+  changed-set : (h : A → A) (d : A) (xs : List A) (i : ℕ) → i < length xs → set (changed h i xs) i (h (getD xs i d)) ≡ changed h (i + 1) xs
+  changed-set h d [] i l = absurd (omega arith)
+  changed-set h d (x ∷ xs) zero l = refl
+  changed-set h d (x ∷ xs) (suc i) l =
+      let e : suc i + 1 ≡ suc (i + 1) = omega arith in
+      rw e (ap (h x ∷_) (changed-set h d xs i (omega arith)))
+
+  length-changed : (h : A → A) (i : ℕ) (xs : List A) → length (changed h i xs) ≡ length xs
+  length-changed h zero xs = refl
+  length-changed h (suc i) [] = refl
+  length-changed h (suc i) (x ∷ xs) = ap suc (length-changed h i xs)
+
+  -- the same in the places of an array: one place more is changed
+  pub filled-changed-next : (n : ℕ) (z : A) (h : A → A) (d : A) (xs : List A) (i : ℕ) → i < length xs
+      → set (filled n z (changed h i xs)) i (h (getD xs i d)) ≡ filled n z (changed h (i + 1) xs)
+  filled-changed-next n z h d xs i l =
+      let many : length (changed h i xs) ≡ length xs = length-changed h i xs in
+      set-append-left (changed h i xs) (replicate (n - length (changed h i xs)) z) i (h (getD xs i d)) (omega arith)
+      ∙ ap₂ (λ ys k. ys ++ replicate (n - k) z) (changed-set h d xs i l) (many ∙ sym (length-changed h (i + 1) xs))
+
+  -- all of them are changed
+  pub changed-all : (h : A → A) (i : ℕ) (xs : List A) → length xs ≤ i → changed h i xs ≡ map h xs
+  changed-all h zero [] l = refl
+  changed-all h zero (x ∷ xs) l = absurd (omega arith)
+  changed-all h (suc i) [] l = refl
+  changed-all h (suc i) (x ∷ xs) l = ap (h x ∷_) (changed-all h i xs (omega arith))
