@@ -1,0 +1,66 @@
+-- The pieces that want the tick, as the code has them, and which of them goes first.
+use mathlib.Core.Path.{_≡_}
+use mathlib.Core.Bool.{Bool, cond}
+use mathlib.Core.List.{List, [], _∷_, map}
+use Prim.Native.Nat.{ℕ, suc}
+use Rattle.ticks.specs.declared.Instant.{Instant}
+use Rattle.ticks.specs.Ticks.{instant, ticks}
+use Rattle.feeds.specs.declared.Feed.{Feed}
+use Rattle.jobs.specs.declared.Job.{Job}
+use Rattle.edf.specs.Book as edf
+use Rattle.edf.specs.Pieces.{Piece as BookPiece, jobPiece, currentPiece}
+use Rattle.edf.specs.Step.{sooner, goesBefore, nobody}
+use Rattle.ledger.specs.Reading.{bookFeed, bookFeeds, bookJob}
+use Rattle.serving.specs.declared.Who.{Who}
+use Rattle.serving.specs.declared.Who.the-variants.{Job as AJob, Feed as AFeed, Idle}
+use Rattle.serving.specs.declared.Piece.{Piece}
+
+abbrev pub whoOf : Who → edf.Who
+whoOf (AJob n) = edf.job n
+whoOf (AFeed p) = edf.feed p
+whoOf Idle = edf.idle
+
+abbrev pub whoIs : edf.Who → Who
+whoIs (edf.job n) = AJob n
+whoIs (edf.feed p) = AFeed p
+whoIs edf.idle = Idle
+
+-- a piece of the mathematics as the code has it: who, when due and what is owed
+abbrev pub frontOf : BookPiece → Piece
+frontOf p = record { who = whoIs (p .who); due = instant (p .due); owes = ticks (p .owes) }
+
+-- and back; from when on it is ready does not matter to who goes first
+abbrev pub pieceOf : Piece → BookPiece
+pieceOf p = record { who = whoOf (p .who); from = 0; due = p .due .0; owes = p .owes .0 }
+
+abbrev pub soonerOf : Piece → Piece → Bool
+soonerOf p q = sooner (pieceOf p) (pieceOf q)
+
+abbrev pub goesBeforeOf : Piece → Piece → Bool
+goesBeforeOf p q = goesBefore (pieceOf p) (pieceOf q)
+
+-- the one of the two that goes first
+abbrev pub aheadOf : Piece → Piece → Piece
+aheadOf p q = cond (goesBeforeOf p q) p q
+
+abbrev pub nobodyFront : Piece
+nobodyFront = frontOf nobody
+
+abbrev pub jobFront : Job → Piece
+jobFront j = record { who = AJob (j .number); due = j .deadline; owes = j .owed }
+
+abbrev pub feedFront : Instant → ℕ → Feed → Piece
+feedFront t k f = frontOf (currentPiece (t .0) (bookFeed k f))
+
+-- the one of these that goes first, and where none of them goes before it, the last
+unfoldable pub foremostOver : List Piece → Piece → Piece
+foremostOver [] last = last
+foremostOver (p ∷ ps) last = aheadOf p (foremostOver ps last)
+
+abbrev pub jobFronts : List Job → List Piece
+jobFronts js = map jobFront js
+
+-- the current pieces of feeds at their positions from k on
+abbrev pub feedFronts : Instant → ℕ → List Feed → List Piece
+feedFronts t k [] = []
+feedFronts t k (f ∷ fs) = feedFront t k f ∷ feedFronts t (suc k) fs
