@@ -6,7 +6,7 @@ use Prim.Native.Nat.{ℕ, zero, suc, _+_, _-_, _≤_, _<_}
 use native.Mathlib.Numerals.{add-one}
 use native.Mathlib.Omega.{arith}
 use lib.ListN.{length, getD, take, drop, set, replicate, length-map, length-append, length-replicate, length-drop}
-use lib.ListN.{take-append-drop, drop-of-length-le}
+use lib.ListN.{take-append-drop, drop-of-length-le, length-set}
 use lib.Seq.{drop-cons, getD-take, length-take-le, set-at, take-suc, take-at, drop-at, take-append-le, drop-append-le}
 use lib.Seq.{paste, set-append-left}
 use Rattle.lists.specs.Lists.{every, Each, total, filled}
@@ -229,3 +229,8 @@ module _ {A : Type 0} where
   changed-all h zero (x ∷ xs) l = absurd (omega arith)
   changed-all h (suc i) [] l = refl
   changed-all h (suc i) (x ∷ xs) l = ap (h x ∷_) (changed-all h i xs (omega arith))
+
+  -- a place in use is changed
+  pub filled-set : (n : ℕ) (z : A) (xs : List A) (i : ℕ) (x : A) → i < length xs → set (filled n z xs) i x ≡ filled n z (set xs i x)
+  filled-set n z xs i x h =
+      set-append-left xs (replicate (n - length xs) z) i x h ∙ ap (λ k. set xs i x ++ replicate (n - k) z) (sym (length-set xs i x))

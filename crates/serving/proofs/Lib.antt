@@ -1,0 +1,3 @@
+pub mod Order
+pub mod Front
+pub mod Served

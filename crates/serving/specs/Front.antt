@@ -1,5 +1,4 @@
 -- The pieces that want the tick, as the code has them, and which of them goes first.
-use mathlib.Core.Path.{_≡_}
 use mathlib.Core.Bool.{Bool, cond}
 use mathlib.Core.List.{List, [], _∷_, map}
 use Prim.Native.Nat.{ℕ, suc}
@@ -8,9 +7,9 @@ use Rattle.ticks.specs.Ticks.{instant, ticks}
 use Rattle.feeds.specs.declared.Feed.{Feed}
 use Rattle.jobs.specs.declared.Job.{Job}
 use Rattle.edf.specs.Book as edf
-use Rattle.edf.specs.Pieces.{Piece as BookPiece, jobPiece, currentPiece}
+use Rattle.edf.specs.Pieces.{Piece as BookPiece, currentPiece}
 use Rattle.edf.specs.Step.{sooner, goesBefore, nobody}
-use Rattle.ledger.specs.Reading.{bookFeed, bookFeeds, bookJob}
+use Rattle.ledger.specs.Reading.{bookFeed}
 use Rattle.serving.specs.declared.Who.{Who}
 use Rattle.serving.specs.declared.Who.the-variants.{Job as AJob, Feed as AFeed, Idle}
 use Rattle.serving.specs.declared.Piece.{Piece}

@@ -1,5 +1,5 @@
 -- The tick given: to the feed at a position, to the job of a number.
-use mathlib.Core.List.{List, [], _∷_, _++_, map}
+use mathlib.Core.List.{List, [], _∷_, map}
 use mathlib.Core.Bool.{cond}
 use Prim.Native.Nat.{ℕ, zero, suc, _-_, _≤_}
 use lib.Dec.{leb, ltb}
@@ -25,9 +25,12 @@ servedJob n j = record { number = j .number; owed = ticks (j .owed .0 - eq n (j 
 abbrev pub servedJobs : ℕ → List Job → List Job
 servedJobs n js = keep (λ j. ltb 0 (j .owed .0)) (map (servedJob n) js)
 
+-- the job with one tick less to get
+abbrev pub oneLess : Job → Job
+oneLess j = record { number = j .number; owed = ticks (j .owed .0 - 1); deadline = j .deadline }
+
 -- the job at a place has one tick less to get, and leaves with its last
 unfoldable pub servedAt : ℕ → List Job → List Job
 servedAt i [] = []
-servedAt zero (j ∷ js) =
-    cond (leb (j .owed .0) 1) js (record { number = j .number; owed = ticks (j .owed .0 - 1); deadline = j .deadline } ∷ js)
+servedAt zero (j ∷ js) = cond (leb (j .owed .0) 1) js (oneLess j ∷ js)
 servedAt (suc i) (j ∷ js) = j ∷ servedAt i js

@@ -8,7 +8,6 @@ use jobs::Job;
 use jobs::Table;
 use ticks::Instant;
 use ticks::Length;
-
 ghost use mathlib.Core.Path.{_≡_};
 ghost use mathlib.Core.List.{map};
 ghost use Prim.Native.Nat.{ℕ, _≤_, _<_};

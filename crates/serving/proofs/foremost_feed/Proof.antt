@@ -1,64 +1,91 @@
+-- `serving::foremost_feed` meets its contract: from the last feed down, the best so far is the foremost of those passed.
+-- Assumes nothing.
+use mathlib.Core.Path.{_≡_, sym, ap, _∙_}
+use mathlib.Core.List.{_∷_}
+use Prim.Native.Nat.{suc, _+_, _-_, _≤_}
+use native.Mathlib.Omega.{arith}
+use lib.ListN.{length, getD, drop}
+use Rattle.lists.proofs.Places.{length-mapped, next-live, no-more-live, each-live}
+use Rattle.feeds.specs.Feeds.{noFeed, live, FeedIn}
+use Rattle.serving.specs.Front.{foremostOver, feedFronts, feedFront, aheadOf, nobodyFront}
+use borrow.Author.Needs.{needs}
 use Rattle.serving.proofs.foremost_feed.Statement.{statement}
 use Rattle.serving.proofs.foremost_feed.Tie as tie
-use Rattle.serving.proofs.foremost_feed.Reads as reads
-use Rattle.serving.proofs.foremost_feed.Lts as lts
-use Rattle.serving.proofs.Piece.ahead_of.Reads as ahead-of-reads
-use Rattle.serving.proofs.Piece.nobody.Reads as nobody-reads
-use Rattle.serving.proofs.Piece.of_feed.Reads as of-feed-reads
 
 abbrev Inv-loop : tie.InvT-loop
-Inv-loop clock feeds best₀ i₀ best i = ?
+Inv-loop clock feeds best₀ i₀ best i = (i ≤ feeds .count) × (best ≡ foremostOver (feedFronts clock (suc i) (drop i (live feeds))) nobodyFront)
 
 abbrev μ-loop : tie.MeasureT-loop
-μ-loop clock feeds best₀ i₀ best i = ?
+μ-loop clock feeds best₀ i₀ best i = i
 
--- src/lib.rt:149:9
 nobody-requires : tie.Need-nobody-requires Inv-loop μ-loop
-nobody-requires c κs = ?
+nobody-requires c κs = search needs
 
--- src/lib.rt:151:5
 loop-holds : tie.Need-loop-holds Inv-loop μ-loop
-loop-holds c = ?
+unfolding foremostOver
+loop-holds c =
+    let feeds = c .before .args .t1 in
+    let long : length (feeds .feeds) ≡ 16 = search (needs, length-mapped) in (
+      omega arith,
+      c .nobody .ensures
+          ∙ ap (λ l. foremostOver (feedFronts (c .before .args .clock) (suc (feeds .count)) l) nobodyFront)
+          (sym (no-more-live (feeds .feeds) (feeds .count) (feeds .count) (omega arith) (omega arith))),
+    )
 
--- src/lib.rt:152:9
 sub-i : tie.Need-sub-i Inv-loop μ-loop
-sub-i c = ?
+sub-i c = search needs
 
--- src/lib.rt:153:36
 mul-of-feed : tie.Need-mul-of-feed Inv-loop μ-loop
-mul-of-feed c = ?
+mul-of-feed c = search needs
 
--- src/lib.rt:153:36
 element-copy-out-of-feed : tie.Need-element-copy-out-of-feed Inv-loop μ-loop
-element-copy-out-of-feed c = ?
+element-copy-out-of-feed c = search needs
 
--- src/lib.rt:153:53
 add-of-feed : tie.Need-add-of-feed Inv-loop μ-loop
-add-of-feed c = ?
+add-of-feed c = search needs
 
--- src/lib.rt:153:52
 cast-of-feed : tie.Need-cast-of-feed Inv-loop μ-loop
-cast-of-feed c = ?
+cast-of-feed c = search needs
 
--- src/lib.rt:153:13
 of-feed-requires : tie.Need-of-feed-requires Inv-loop μ-loop
-of-feed-requires c κs = ?
+of-feed-requires c κs =
+    let feeds = c .before .before .before .before .args .t1 in
+    let long : length (feeds .feeds) ≡ 16 = search (needs, length-mapped) in
+    (each-live FeedIn (feeds .feeds) (feeds .count) (c .before .before .loop .i - 1) noFeed (c .before .before .before .before .pre .1) (omega arith) (omega arith), c .before .before .before .before .pre .2)
 
--- src/lib.rt:154:9
 ahead-of-requires : tie.Need-ahead-of-requires Inv-loop μ-loop
-ahead-of-requires c κs = ?
+ahead-of-requires c κs = search needs
 
--- src/lib.rt:151:5
 loop-less : tie.Need-loop-less Inv-loop μ-loop
-loop-less c = ?
+loop-less c = search needs
 
--- src/lib.rt:151:5
 loop-again : tie.Need-loop-again Inv-loop μ-loop
-loop-again c = ?
+unfolding foremostOver
+loop-again c =
+    let feeds = c .before .before .before .before .before .before .args .t1 in
+    let t = c .before .before .before .before .before .before .args .clock in
+    let i = c .before .before .before .before .loop .i in
+    let f = getD (feeds .feeds) (i - 1) noFeed in
+    let long : length (feeds .feeds) ≡ 16 = search (needs, length-mapped) in
+    let one : (i - 1) + 1 ≡ suc (i - 1) = omega arith in
+    let up : i ≡ suc (i - 1) = omega arith in
+    let back : i ≡ (i - 1) + 1 = omega arith in
+    let here : drop (i - 1) (live feeds) ≡ f ∷ drop ((i - 1) + 1) (live feeds)
+    = next-live (feeds .feeds) (feeds .count) (i - 1) noFeed (omega arith) (omega arith) in
+    let rest : c .before .before .before .before .loop .best ≡ foremostOver (feedFronts t (suc (suc (i - 1))) (drop ((i - 1) + 1) (live feeds))) nobodyFront
+    = c .before .before .before .before .loop .inv .1 ∙ (λ j. foremostOver (feedFronts t (suc (up j)) (drop (back j) (live feeds))) nobodyFront) in (
+      omega arith,
+      c .ahead-of .ensures
+          ∙ (λ j. aheadOf ((c .before .of-feed .ensures ∙ ap (λ n. feedFront t n f) one) j) (rest j))
+          ∙ ap (λ l. foremostOver (feedFronts t (suc (i - 1)) l) nobodyFront) (sym here),
+    )
 
--- src/lib.rt:145:1
 returns : tie.Need-returns Inv-loop μ-loop
-returns c = ?
+returns c =
+    let feeds = c .before .before .before .args .t1 in
+    let t = c .before .before .before .args .clock in
+    let z : c .before .loop .i ≡ 0 = omega arith in
+    c .before .loop .inv .1 ∙ (λ j. foremostOver (feedFronts t (suc (z j)) (drop (z j) (live feeds))) nobodyFront)
 
 pub foremost-feed-spec : {M : Type 1} → statement M
 foremost-feed-spec =

@@ -1,51 +1,73 @@
+-- `serving::foremost_job` meets its contract: from the last job down, the best so far is the foremost of those passed.
+-- Assumes nothing.
+use mathlib.Core.Path.{_≡_, sym, ap, _∙_}
+use mathlib.Core.List.{_∷_}
+use Prim.Native.Nat.{_+_, _-_, _≤_}
+use native.Mathlib.Omega.{arith}
+use lib.ListN.{length, getD, drop}
+use Rattle.lists.proofs.Places.{length-mapped, next-live, no-more-live}
+use Rattle.jobs.specs.Jobs.{noJob, live}
+use Rattle.serving.specs.Front.{foremostOver, jobFronts, aheadOf}
+use borrow.Author.Needs.{needs}
 use Rattle.serving.proofs.foremost_job.Statement.{statement}
 use Rattle.serving.proofs.foremost_job.Tie as tie
-use Rattle.serving.proofs.foremost_job.Reads as reads
-use Rattle.serving.proofs.foremost_job.Lts as lts
-use Rattle.serving.proofs.Piece.ahead_of.Reads as ahead-of-reads
-use Rattle.serving.proofs.Piece.of_job.Reads as of-job-reads
 
 abbrev Inv-loop : tie.InvT-loop
-Inv-loop table best₀ i₀ best i = ?
+Inv-loop table best₀ i₀ best i = (i ≤ table .count) × (best ≡ foremostOver (jobFronts (drop i (live table))) best₀)
 
 abbrev μ-loop : tie.MeasureT-loop
-μ-loop table best₀ i₀ best i = ?
+μ-loop table best₀ i₀ best i = i
 
--- src/lib.rt:166:5
 loop-holds : tie.Need-loop-holds Inv-loop μ-loop
-loop-holds c = ?
+unfolding foremostOver
+loop-holds c =
+    let table = c .args .t1 in
+    let long : length (table .jobs) ≡ 64 = search (needs, length-mapped) in (
+      omega arith,
+      ap (λ l. foremostOver (jobFronts l) (c .args .piece))
+          (sym (no-more-live (table .jobs) (table .count) (table .count) (omega arith) (omega arith))),
+    )
 
--- src/lib.rt:167:9
 sub-i : tie.Need-sub-i Inv-loop μ-loop
-sub-i c = ?
+sub-i c = search needs
 
--- src/lib.rt:168:33
 mul-of-job : tie.Need-mul-of-job Inv-loop μ-loop
-mul-of-job c = ?
+mul-of-job c = search needs
 
--- src/lib.rt:168:33
 element-copy-out-of-job : tie.Need-element-copy-out-of-job Inv-loop μ-loop
-element-copy-out-of-job c = ?
+element-copy-out-of-job c = search needs
 
--- src/lib.rt:168:13
 of-job-requires : tie.Need-of-job-requires Inv-loop μ-loop
-of-job-requires c κs = ?
+of-job-requires c κs = search needs
 
--- src/lib.rt:169:9
 ahead-of-requires : tie.Need-ahead-of-requires Inv-loop μ-loop
-ahead-of-requires c κs = ?
+ahead-of-requires c κs = search needs
 
--- src/lib.rt:166:5
 loop-less : tie.Need-loop-less Inv-loop μ-loop
-loop-less c = ?
+loop-less c = search needs
 
--- src/lib.rt:166:5
 loop-again : tie.Need-loop-again Inv-loop μ-loop
-loop-again c = ?
+unfolding foremostOver
+loop-again c =
+    let table = c .before .before .before .before .before .args .t1 in
+    let i = c .before .before .before .before .loop .i in
+    let long : length (table .jobs) ≡ 64 = search (needs, length-mapped) in
+    let back : i ≡ (i - 1) + 1 = omega arith in
+    let here : drop (i - 1) (live table) ≡ getD (table .jobs) (i - 1) noJob ∷ drop ((i - 1) + 1) (live table)
+    = next-live (table .jobs) (table .count) (i - 1) noJob (omega arith) (omega arith) in
+    let rest : c .before .before .before .before .loop .best ≡ foremostOver (jobFronts (drop ((i - 1) + 1) (live table))) (c .before .before .before .before .before .args .piece)
+    = c .before .before .before .before .loop .inv .1 ∙ ap (λ n. foremostOver (jobFronts (drop n (live table))) (c .before .before .before .before .before .args .piece)) back in (
+      omega arith,
+      c .ahead-of .ensures
+          ∙ (λ j. aheadOf (c .before .of-job .ensures j) (rest j))
+          ∙ ap (λ l. foremostOver (jobFronts l) (c .before .before .before .before .before .args .piece)) (sym here),
+    )
 
--- src/lib.rt:160:1
 returns : tie.Need-returns Inv-loop μ-loop
-returns c = ?
+returns c =
+    let table = c .before .before .args .t1 in
+    let z : c .before .loop .i ≡ 0 = omega arith in
+    c .before .loop .inv .1 ∙ ap (λ n. foremostOver (jobFronts (drop n (live table))) (c .before .before .args .piece)) z
 
 pub foremost-job-spec : {M : Type 1} → statement M
 foremost-job-spec =

@@ -1,34 +1,33 @@
+-- `serving::Piece::goes_before` meets its contract, test by test. Assumes nothing.
+use mathlib.Core.Path.{sym, _∙_}
+use borrow.Author.Tests.{eqb-true, eqb-false}
+use Rattle.serving.proofs.Order.{owes-nothing, before-nothing, both-ready}
 use borrow.Author.Needs.{needs}
 use Rattle.serving.proofs.Piece.goes_before.Statement.{statement}
 use Rattle.serving.proofs.Piece.goes_before.Tie as tie
-use Rattle.serving.proofs.Piece.goes_before.Reads as reads
-use Rattle.serving.proofs.Piece.goes_before.Lts as lts
-use Rattle.serving.proofs.Piece.sooner.Reads as sooner-reads
-use Rattle.ticks.proofs.Length.is_none.Reads as is-none-reads
 
--- src/lib.rt:97:12
 is-none-requires : tie.Need-is-none-requires
 is-none-requires c κs = search needs
 
--- src/lib.rt:98:13
 returns : tie.Need-returns
-returns c = ?
+returns c = owes-nothing _ _ (eqb-true _ _ (sym (c .before .is-none .ensures) ∙ c .if1 .taken))
 
--- src/lib.rt:100:12
 is-none-requires-2 : tie.Need-is-none-requires-2
 is-none-requires-2 c κs = search needs
 
--- src/lib.rt:101:13
 returns-2 : tie.Need-returns-2
-returns-2 c = ?
+returns-2 c =
+    before-nothing _ _ (eqb-false _ _ (sym (c .before .before .before .is-none .ensures) ∙ c .before .before .if1 .left))
+    (eqb-true _ _ (sym (c .before .is-none2 .ensures) ∙ c .if2 .taken))
 
--- src/lib.rt:103:9
 sooner-requires : tie.Need-sooner-requires
 sooner-requires c κs = search needs
 
--- src/lib.rt:94:5
 returns-3 : tie.Need-returns-3
-returns-3 c = ?
+returns-3 c =
+    c .sooner .ensures
+    ∙ both-ready _ _ (eqb-false _ _ (sym (c .before .before .before .before .is-none .ensures) ∙ c .before .before .before .if1 .left))
+    (eqb-false _ _ (sym (c .before .before .is-none2 .ensures) ∙ c .before .if2 .left))
 
 pub goes-before-spec : {M : Type 1} → statement M
 goes-before-spec =

@@ -1,0 +1,70 @@
+-- The foremost piece that the code finds is the runner of the book.
+use mathlib.Core.Path.{_≡_, refl, ap, _∙_}
+use mathlib.Core.Bool.{Bool, true, false, cond, _&&_, _||_}
+use mathlib.Core.List.{List, [], _∷_, _++_, map}
+use Prim.Native.Nat.{ℕ, suc}
+use lib.Dec.{ltb, leb, eqb}
+use Rattle.ticks.specs.declared.Instant.{Instant}
+use Rattle.feeds.specs.declared.Feed.{Feed}
+use Rattle.jobs.specs.declared.Job.{Job}
+use Rattle.edf.specs.Book as edf
+use Rattle.edf.specs.Pieces.{Piece as BookPiece, jobPiece, currentPiece}
+use Rattle.edf.specs.Step.{kind, numberOf, first, sooner, goesBefore, foremost, runner}
+use Rattle.ledger.specs.Reading.{bookFeeds, bookJob, bookOf}
+use Rattle.serving.specs.Front.{whoOf, whoIs, frontOf, pieceOf, aheadOf, nobodyFront, jobFront, feedFront, foremostOver, jobFronts, feedFronts}
+
+who-back : (w : edf.Who) → whoOf (whoIs w) ≡ w
+who-back (edf.job n) = refl
+who-back (edf.feed p) = refl
+who-back edf.idle = refl
+
+-- who goes first does not turn on from when on a piece is ready
+goes-alike : (p q : BookPiece) → goesBefore (pieceOf (frontOf p)) (pieceOf (frontOf q)) ≡ goesBefore p q
+unfolding goesBefore sooner
+goes-alike p q =
+    λ i. ltb 0 (p .owes)
+    && (eqb (q .owes) 0
+    || first (p .due) (q .due)
+    (first (kind (who-back (p .who) i)) (kind (who-back (q .who) i))
+    (leb (numberOf (who-back (p .who) i)) (numberOf (who-back (q .who) i)))))
+
+front-cond : (b : Bool) (p q : BookPiece) → cond b (frontOf p) (frontOf q) ≡ frontOf (cond b p q)
+front-cond true p q = refl
+front-cond false p q = refl
+
+over-is : (ps qs : List BookPiece) → foremostOver (map frontOf ps) (frontOf (foremost qs)) ≡ frontOf (foremost (ps ++ qs))
+unfolding foremostOver foremost
+over-is [] qs = refl
+over-is (p ∷ ps) qs =
+    ap (aheadOf (frontOf p)) (over-is ps qs)
+    ∙ ap (λ b. cond b (frontOf p) (frontOf (foremost (ps ++ qs)))) (goes-alike p (foremost (ps ++ qs)))
+    ∙ front-cond (goesBefore p (foremost (ps ++ qs))) p (foremost (ps ++ qs))
+
+job-fronts : (t : ℕ) (js : List Job) → jobFronts js ≡ map frontOf (map (jobPiece t) (map bookJob js))
+job-fronts t [] = refl
+job-fronts t (j ∷ js) = ap (jobFront j ∷_) (job-fronts t js)
+
+feed-fronts : (t : Instant) (k : ℕ) (fs : List Feed) → feedFronts t k fs ≡ map frontOf (map (currentPiece (t .0)) (bookFeeds k fs))
+feed-fronts t k [] = refl
+feed-fronts t k (f ∷ fs) = ap (feedFront t k f ∷_) (feed-fronts t (suc k) fs)
+
+append-none : (ps : List BookPiece) → ps ++ [] ≡ ps
+append-none [] = refl
+append-none (p ∷ ps) = ap (p ∷_) (append-none ps)
+
+-- the foremost feed
+feeds-foremost : (t : Instant) (k : ℕ) (fs : List Feed)
+    → foremostOver (feedFronts t k fs) nobodyFront ≡ frontOf (foremost (map (currentPiece (t .0)) (bookFeeds k fs)))
+unfolding foremost
+feeds-foremost t k fs =
+    ap (λ ps. foremostOver ps nobodyFront) (feed-fronts t k fs)
+    ∙ over-is (map (currentPiece (t .0)) (bookFeeds k fs)) []
+    ∙ ap (λ ps. frontOf (foremost ps)) (append-none (map (currentPiece (t .0)) (bookFeeds k fs)))
+
+-- THE RUNNER
+pub foremost-is-runner : (t : Instant) (fs : List Feed) (js : List Job)
+    → foremostOver (jobFronts js) (foremostOver (feedFronts t 1 fs) nobodyFront) ≡ frontOf (runner (bookOf t fs js))
+unfolding runner
+foremost-is-runner t fs js =
+    (λ i. foremostOver (job-fronts (t .0) js i) (feeds-foremost t 1 fs i))
+    ∙ over-is (map (jobPiece (t .0)) (map bookJob js)) (map (currentPiece (t .0)) (bookFeeds 1 fs))
