@@ -13,7 +13,7 @@ use Rattle.edf.specs.Step.{kind, numberOf, first, sooner, goesBefore, foremost,
 use Rattle.ledger.specs.Reading.{bookFeeds, bookJob, bookOf}
 use Rattle.serving.specs.Front.{whoOf, whoIs, frontOf, pieceOf, aheadOf, nobodyFront, jobFront, feedFront, foremostOver, jobFronts, feedFronts}
 
-who-back : (w : edf.Who) → whoOf (whoIs w) ≡ w
+pub who-back : (w : edf.Who) → whoOf (whoIs w) ≡ w
 who-back (edf.job n) = refl
 who-back (edf.feed p) = refl
 who-back edf.idle = refl

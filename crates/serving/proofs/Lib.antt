@@ -1,3 +1,4 @@
 pub mod Order
 pub mod Front
 pub mod Served
+pub mod Steps

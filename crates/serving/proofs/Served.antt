@@ -36,6 +36,10 @@ served-none-after p k (f ∷ fs) h =
     = eq-elim (λ e. f .owes .0 - e ≡ f .owes .0) p k (λ e. absurd (omega arith)) (λ e. omega arith) in
     λ i. owing (ticks (z i)) f ∷ served-none-after p (suc k) fs (omega arith) i
 
+pub length-served : (p k : ℕ) (fs : List Feed) → length (servedFeeds p k fs) ≡ length fs
+length-served p k [] = refl
+length-served p k (f ∷ fs) = ap suc (length-served p (suc k) fs)
+
 -- one that is among them changes its own place
 pub served-place : (i k : ℕ) (fs : List Feed) → i < length fs
     → servedFeeds (k + i) k fs ≡ set fs i (owing (ticks (getD fs i noFeed .owes .0 - 1)) (getD fs i noFeed))

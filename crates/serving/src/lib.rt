@@ -18,6 +18,7 @@ ghost use Rattle.jobs.specs.Jobs.{mostJobs, live as liveJobs, tableOf, times};
 ghost use Rattle.edf.specs.Step.{kind, numberOf, runner};
 ghost use Rattle.ledger.specs.Reading.{bookOf};
 ghost use Rattle.serving.specs.Served.{Owing, servedFeeds, servedJobs, servedAt};
+ghost use Rattle.serving.specs.Tick.{Steppable, tickedOf};
 ghost use Rattle.serving.specs.Front.{whoOf, soonerOf, goesBeforeOf, aheadOf, nobodyFront, jobFront, feedFront, jobFronts, feedFronts, foremostOver, frontOf};
 
 // Whom a tick goes to.
@@ -32,6 +33,20 @@ pub struct Piece {
     pub who: Who,
     pub due: Instant,
     pub owes: Length,
+}
+
+// Whom a tick went to, and what that piece of work still owes after it, before any release.
+pub struct Named {
+    pub who: Who,
+    pub owes: Length,
+}
+
+// The clock, the feeds and the jobs after a tick, and whom it went to.
+pub struct Ticked {
+    pub clock: Instant,
+    pub feeds: Feeds,
+    pub table: Table,
+    pub named: Named,
 }
 
 // Jobs before feeds.
@@ -227,4 +242,43 @@ fn served_at(table: Table, at: usize) -> Table
     let mut next = table;
     next.jobs[at] = job;
     next
+}
+
+// One tick: it goes to the foremost piece, then the clock goes on and the pieces that come are ready.
+pub fn tick(clock: Instant, feeds: Feeds, table: Table) -> Ticked
+    requires { ⌜ Steppable clock feeds table ⌝ }
+    ensures { λ r. ⌜ r ≡ tickedOf clock (liveFeeds feeds) (liveJobs table) ⌝ }
+{
+    let front = foremost(clock, feeds, table);
+    let who = front.who;
+    let next = Instant(clock.0 + 1);
+    match who {
+        Who::Job(number) => Ticked {
+            clock: next,
+            feeds: ledger::arrive(feeds, next),
+            table: serve_job(table, number),
+            named: Named {
+                who,
+                owes: Length(front.owes.0 - 1),
+            },
+        },
+        Who::Feed(position) => Ticked {
+            clock: next,
+            feeds: ledger::arrive(serve_feed(feeds, position), next),
+            table,
+            named: Named {
+                who,
+                owes: Length(front.owes.0 - 1),
+            },
+        },
+        Who::Idle => Ticked {
+            clock: next,
+            feeds: ledger::arrive(feeds, next),
+            table,
+            named: Named {
+                who,
+                owes: Length::NONE,
+            },
+        },
+    }
 }
