@@ -4,12 +4,14 @@
 use feeds::Feed;
 use feeds::Feeds;
 use ticks::Instant;
+use ticks::Length;
 ghost use mathlib.Core.Path.{_≡_};
 ghost use mathlib.Core.List.{map};
 ghost use Prim.Native.Nat.{_≤_};
 ghost use Rattle.lists.specs.Lists.{every, Each};
 ghost use Rattle.feeds.specs.Feeds.{mostFeeds, live, feedsOf, FeedIn};
-ghost use Rattle.ledger.specs.Pieces.{pieceIn, arrived};
+ghost use Rattle.ticks.specs.Ticks.{ticks};
+ghost use Rattle.ledger.specs.Pieces.{pieceIn, arrived, owesAt, restedFeeds};
 
 // What a state in order says of one current piece.
 fn piece_in(feed: Feed, clock: Instant) -> bool
@@ -63,5 +65,36 @@ pub fn arrive(feeds: Feeds, at: Instant) -> Feeds
         let feed = arrived(feeds.feeds[i], at);
         next.feeds[i] = feed;
     }
+    next
+}
+
+// What the current piece of the feed at this position still owes; nothing where there is no such feed.
+pub fn owes_at(feeds: Feeds, position: u32) -> Length
+    requires { ⌜ feeds .count ≤ mostFeeds ⌝ }
+    ensures { λ r. ⌜ r ≡ ticks (owesAt position 1 (live feeds)) ⌝ }
+{
+    let count = feeds.count;
+    let at = position as usize;
+    if at < 1 {
+        return Length::NONE;
+    }
+    if count < at {
+        return Length::NONE;
+    }
+    let feed = feeds.feeds[at - 1];
+    feed.owes
+}
+
+// The current piece of the feed at this position owes nothing from now on.
+pub fn rest_at(feeds: Feeds, position: u32) -> Feeds
+    requires { ⌜ (feeds ≡ feedsOf (live feeds)) × (feeds .count ≤ mostFeeds) × (1 ≤ position) × (position ≤ feeds .count) ⌝ }
+    ensures { λ r. ⌜ r ≡ feedsOf (restedFeeds position 1 (live feeds)) ⌝ }
+{
+    let at = position as usize;
+    let mut feed = feeds.feeds[at - 1];
+    let none = Length::NONE;
+    feed.owes = none;
+    let mut next = feeds;
+    next.feeds[at - 1] = feed;
     next
 }
