@@ -19,7 +19,7 @@ use Rattle.ledger.specs.Reading.{bookFeeds}
 use Rattle.ledger.specs.Pieces.{arrived}
 use Rattle.ledger.proofs.Reading.{all-arrived-opened}
 use Rattle.desk.specs.declared.Desk.{Desk}
-use Rattle.desk.specs.declared.Opened.{Opened}
+use Rattle.desk.specs.declared.Answer.{Answer}
 use Rattle.desk.specs.declared.Refusal.the-variants.{Outside, PastLast, TooManyFeeds, RoundTooLong, TooMuchLoad, NotThree}
 use Rattle.desk.specs.declared.Verdict.{Verdict}
 use Rattle.desk.specs.declared.Verdict.the-variants.{Yes, No}
@@ -85,7 +85,7 @@ module _ (xs : List ℕ) (start : ℕ) where
 
   -- a refusal hands back the empty state
   pub refused-opening : (v : Verdict) → firstOf (openLines xs start) ≡ v → onYes v (deskOf (opened start (bookFeeds 1 (feedsIn xs)))) empty ≡ empty
-      → _≡_ {A = Opened} (record { desk = empty; verdict = v }) (openedOf xs start)
+      → _≡_ {A = Answer} (record { desk = empty; verdict = v }) (openedOf xs start)
   unfolding openedOf
   refused-opening v e z =
       λ i. record {
@@ -95,7 +95,7 @@ module _ (xs : List ℕ) (start : ℕ) where
 
 -- a yes hands back the opened desk
 pub taken-opening : (xs : List ℕ) (start : ℕ) (d : Desk) → firstOf (openLines xs start) ≡ Yes → d ≡ deskOf (opened start (bookFeeds 1 (feedsIn xs)))
-    → _≡_ {A = Opened} (record { desk = d; verdict = Yes }) (openedOf xs start)
+    → _≡_ {A = Answer} (record { desk = d; verdict = Yes }) (openedOf xs start)
 unfolding openedOf
 taken-opening xs start d e z =
     λ i. record {

@@ -4,6 +4,14 @@ use mathlib.Core.List.{List, [], _∷_}
 use Prim.Native.Nat.{ℕ}
 use Rattle.feeds.specs.declared.Listed.{Listed}
 use Rattle.feeds.specs.declared.Listed.the-variants as listed
+use Rattle.ticks.specs.declared.Length.{Length}
+use Rattle.serving.specs.declared.Who.{Who}
+use Rattle.serving.specs.declared.Who.the-variants as who
+use Rattle.serving.specs.declared.Named.{Named}
+use Rattle.desk.specs.declared.Desk.{Desk}
+use Rattle.desk.specs.declared.Answer.{Answer}
+use Rattle.desk.specs.declared.Ran.{Ran}
+use Rattle.desk.specs.declared.Ran.the-variants as ran
 use Rattle.desk.specs.declared.Refusal.{Refusal}
 use Rattle.desk.specs.declared.Refusal.the-variants.{
   NumberZero,
@@ -70,3 +78,21 @@ verdictOf listed.TooMuch = No TooMuchLoad
 abbrev pub onYes : {A : Type 0} → Verdict → A → A → A
 onYes Yes a b = a
 onYes (No r) a b = b
+
+abbrev pub ranBy : Who → Length → Ran
+ranBy (who.Job number) owes = ran.Job number owes
+ranBy (who.Feed position) owes = ran.Feed position owes
+ranBy who.Idle owes = ran.Idle
+
+-- whom a step names and what that piece of work still owes, of the tick that it gave
+abbrev pub ranOf : Named → Ran
+ranOf n = ranBy (n .who) (n .owes)
+
+-- the tick where the answer is yes, else the refusal
+abbrev pub ranIf : Verdict → Named → Ran
+ranIf Yes n = ranOf n
+ranIf (No r) n = ran.No r
+
+-- the answer of the lines, with what is handed back on a yes and what on a refusal
+abbrev pub answered : List Line → Desk → Desk → Answer
+answered ls new old = record { desk = onYes (firstOf ls) new old; verdict = firstOf ls }

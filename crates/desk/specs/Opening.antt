@@ -12,9 +12,9 @@ use Rattle.feeds.specs.Round.{periods, roundOf, load}
 use Rattle.feeds.specs.Lines.{feedsIn}
 use Rattle.ledger.specs.Reading.{bookFeeds}
 use Rattle.edf.specs.Load.{opened}
-use Rattle.desk.specs.declared.Opened.{Opened}
+use Rattle.desk.specs.declared.Answer.{Answer}
 use Rattle.desk.specs.declared.Refusal.the-variants.{Outside, PastLast, TooManyFeeds, RoundTooLong, TooMuchLoad, NotThree}
-use Rattle.desk.specs.Answers.{Line, line, firstOf, onYes}
+use Rattle.desk.specs.Answers.{Line, line, answered}
 use Rattle.desk.specs.State.{empty, deskOf}
 
 -- three numbers a feed (12)
@@ -52,9 +52,5 @@ openLines xs start =
     ∷ []
 
 -- the answer, and the state: the pieces released at the opening instant are ready
-unfoldable pub openedOf : List ℕ → ℕ → Opened
-openedOf xs start =
-    record {
-      desk = onYes (firstOf (openLines xs start)) (deskOf (opened start (bookFeeds 1 (feedsIn xs)))) empty;
-      verdict = firstOf (openLines xs start);
-    }
+unfoldable pub openedOf : List ℕ → ℕ → Answer
+openedOf xs start = answered (openLines xs start) (deskOf (opened start (bookFeeds 1 (feedsIn xs)))) empty

@@ -2,8 +2,12 @@
 // It must not know text or files.
 use feeds::Feeds;
 use feeds::Listed;
+use jobs::Found;
 use jobs::Table;
+use serving::Named;
+use serving::Who;
 use ticks::Instant;
+use ticks::Length;
 ghost use mathlib.Core.Path.{_≡_};
 ghost use mathlib.Core.Bool.{true};
 ghost use mathlib.Core.List.{[]};
@@ -11,8 +15,9 @@ ghost use lib.ListN.{length};
 ghost use Rattle.feeds.specs.Lines.{shapeOf};
 ghost use Rattle.feeds.specs.declared.Listed.the-variants.{Fine};
 ghost use Rattle.desk.specs.State.{inOrder, empty};
-ghost use Rattle.desk.specs.Answers.{verdictOf};
+ghost use Rattle.desk.specs.Answers.{verdictOf, ranOf};
 ghost use Rattle.desk.specs.Opening.{openedOf};
+ghost use Rattle.desk.specs.Calls.{stepOf, endOf, restOf};
 
 // The state of a box: what the clock reads, the feeds with their current pieces, and the live jobs.
 #[repr(C)]
@@ -44,10 +49,24 @@ pub enum Verdict {
     No(Refusal),
 }
 
-// The state that an opening hands back, and its answer.
-pub struct Opened {
+// The state that a call hands back, and its answer.
+pub struct Answer {
     pub desk: Desk,
     pub verdict: Verdict,
+}
+
+// Whom a step named and what that piece of work still owes, or why there was no step.
+pub enum Ran {
+    Job(u32, Length),
+    Feed(u32, Length),
+    Idle,
+    No(Refusal),
+}
+
+// The state that a step hands back, and its answer.
+pub struct Stepped {
+    pub desk: Desk,
+    pub ran: Ran,
 }
 
 // What the opening says of a lent list.
@@ -61,6 +80,19 @@ fn verdict_of(listed: Listed) -> Verdict
         Listed::Outside => Verdict::No(Refusal::Outside),
         Listed::RoundTooLong => Verdict::No(Refusal::RoundTooLong),
         Listed::TooMuch => Verdict::No(Refusal::TooMuchLoad),
+    }
+}
+
+// What a step answers of the tick that it gave.
+fn ran_of(named: Named) -> Ran
+    ensures { λ r. ⌜ r ≡ ranOf named ⌝ }
+{
+    let who = named.who;
+    let owes = named.owes;
+    match who {
+        Who::Job(number) => Ran::Job(number, owes),
+        Who::Feed(position) => Ran::Feed(position, owes),
+        Who::Idle => Ran::Idle,
     }
 }
 
@@ -93,12 +125,12 @@ impl Desk {
     }
 
     // Opening with a list of feeds, three numbers a feed, at an instant.
-    pub fn open(list: &[u32], start: u64) -> Opened
+    pub fn open(list: &[u32], start: u64) -> Answer
         ensures { λ r. ⌜ r ≡ openedOf (now (list .entry)) start ⌝ }
     {
         match feeds::shape(list) {
             Listed::Fine => Desk::open_shaped(list, start),
-            other => Opened {
+            other => Answer {
                 desk: Desk::none(),
                 verdict: verdict_of(other),
             },
@@ -106,13 +138,13 @@ impl Desk {
     }
 
     // The opening past lines 12 and 8: first the instant, then the feeds.
-    fn open_shaped(list: &[u32], start: u64) -> Opened
+    fn open_shaped(list: &[u32], start: u64) -> Answer
         requires { ⌜ shapeOf (length (now list)) ≡ Fine ⌝ }
         ensures { λ r. ⌜ r ≡ openedOf (now (list .entry)) start ⌝ }
     {
         let clock = Instant::at(start);
         if !clock.within() {
-            return Opened {
+            return Answer {
                 desk: Desk::none(),
                 verdict: Verdict::No(Refusal::PastLast),
             };
@@ -121,7 +153,7 @@ impl Desk {
         let answer = reading.answer;
         let feeds = reading.feeds;
         match answer {
-            Listed::Fine => Opened {
+            Listed::Fine => Answer {
                 desk: Desk {
                     clock,
                     feeds: ledger::arrive(feeds, clock),
@@ -129,10 +161,95 @@ impl Desk {
                 },
                 verdict: Verdict::Yes,
             },
-            other => Opened {
+            other => Answer {
                 desk: Desk::none(),
                 verdict: verdict_of(other),
             },
+        }
+    }
+
+    // One step of one tick.
+    pub fn step(self) -> Stepped
+        ensures { λ r. ⌜ r ≡ stepOf self ⌝ }
+    {
+        if !self.in_order() {
+            return Stepped {
+                desk: self,
+                ran: Ran::No(Refusal::NotInOrder),
+            };
+        }
+        let last = Instant::last();
+        if !last.is_after(self.clock) {
+            return Stepped {
+                desk: self,
+                ran: Ran::No(Refusal::PastLast),
+            };
+        }
+        let ticked = serving::tick(self.clock, self.feeds, self.table);
+        let clock = ticked.clock;
+        let feeds = ticked.feeds;
+        let table = ticked.table;
+        let named = ticked.named;
+        Stepped {
+            desk: Desk {
+                clock,
+                feeds,
+                table,
+            },
+            ran: ran_of(named),
+        }
+    }
+
+    // Ending a job before its time.
+    pub fn end(self, number: u32) -> Answer
+        ensures { λ r. ⌜ r ≡ endOf self number ⌝ }
+    {
+        if !self.in_order() {
+            return Answer {
+                desk: self,
+                verdict: Verdict::No(Refusal::NotInOrder),
+            };
+        }
+        match self.table.find(number) {
+            Found::At(at) => {
+                let table = self.table.without(at);
+                let mut desk = self;
+                desk.table = table;
+                Answer {
+                    desk,
+                    verdict: Verdict::Yes,
+                }
+            }
+            Found::Nothing => Answer {
+                desk: self,
+                verdict: Verdict::No(Refusal::NothingThere),
+            },
+        }
+    }
+
+    // Resting a feed's current piece.
+    pub fn rest(self, position: u32) -> Answer
+        ensures { λ r. ⌜ r ≡ restOf self position ⌝ }
+    {
+        if !self.in_order() {
+            return Answer {
+                desk: self,
+                verdict: Verdict::No(Refusal::NotInOrder),
+            };
+        }
+        let owes = ledger::owes_at(self.feeds, position);
+        if owes.is_none() {
+            return Answer {
+                desk: self,
+                verdict: Verdict::No(Refusal::NothingThere),
+            };
+        }
+        let feeds = ledger::rest_at(self.feeds, position);
+        let mut desk = self;
+        desk.feeds = feeds;
+        Answer {
+            desk,
+            verdict: Verdict::Yes,
         }
     }
 }

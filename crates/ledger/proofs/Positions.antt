@@ -1,8 +1,9 @@
 -- The feed at a position, in its place and in the book.
-use mathlib.Core.Path.{_≡_, refl, sym, ap, _∙_}
-use mathlib.Core.Bool.{Bool, true, false, cond}
+use mathlib.Core.Path.{_≡_, refl, ap, _∙_}
+use mathlib.Core.Bool.{cond}
 use mathlib.Core.List.{List, [], _∷_, map}
 use Prim.Native.Nat.{ℕ, zero, suc, _+_, _≤_, _<_}
+use native.Mathlib.Decide.{decLe, decLt}
 use native.Mathlib.Omega.{arith}
 use lib.Dec.{eqb}
 use lib.ListN.{length, getD, set}
@@ -59,3 +60,15 @@ rested-place (suc i) k (f ∷ fs) h =
 pub rested-book : (p k : ℕ) (fs : List Feed) → restedFeeds p k fs ≡ map feedOf (map (restFeed p) (bookFeeds k fs))
 rested-book p k [] = refl
 rested-book p k (f ∷ fs) = ap (owing (ticks (cond (eqb p k) 0 (f .owes .0))) f ∷_) (rested-book p (suc k) fs)
+
+-- where something is owed there is such a position
+pub owes-some : (p k : ℕ) (fs : List Feed) → (owesAt p k fs ≡ 0 → ⊥) → (k ≤ p) × (p < k + length fs)
+owes-some p k fs n = (low (decLe k p), high (decLt p (k + length fs)))
+  where
+    low : Dec (k ≤ p) → k ≤ p
+    low (yes h) = h
+    low (no h) = absurd (n (owes-before p k fs (omega arith)))
+
+    high : Dec (p < k + length fs) → p < k + length fs
+    high (yes h) = h
+    high (no h) = absurd (n (owes-after p k fs (omega arith)))

@@ -1,0 +1,90 @@
+-- What a line of the rehearsal says, over its bytes without the newline.
+use mathlib.Core.Bool.{cond}
+use mathlib.Core.List.{List, [], _∷_}
+use Prim.Native.Nat.{ℕ}
+use Prim.Native.String.{String}
+use lib.Dec.{leb}
+use Rattle.words.specs.declared.Number.{Number}
+use Rattle.words.specs.declared.Small.{Small}
+use Rattle.words.specs.declared.Three.{Three}
+use Rattle.words.specs.declared.Word.{Word}
+use Rattle.words.specs.declared.Line.{Line}
+use Rattle.words.specs.Text.{spelt}
+use Rattle.words.specs.Numbers.{numberOf, smallOf}
+use Rattle.words.specs.Fields.{same, fieldsOf}
+
+-- a run has at most so many ticks
+abbrev pub mostRun : ℕ
+mostRun = 4096
+
+-- the words that begin a line
+abbrev pub words : List (String × Word)
+words =
+    ("feed", Word.Feed)
+    ∷ ("go", Word.Go)
+    ∷ ("ask", Word.Ask)
+    ∷ ("end", Word.End)
+    ∷ ("rest", Word.Rest)
+    ∷ ("run", Word.Run)
+    ∷ []
+
+-- the first of these words that the field spells
+unfoldable pub wordIn : List (String × Word) → List ℕ → Word
+wordIn [] f = Word.Other
+wordIn (w ∷ ws) f = cond (same f (spelt (w .0))) (w .1) (wordIn ws f)
+
+abbrev pub wordOf : List ℕ → Word
+wordOf f = wordIn words f
+
+-- the number, where there is one field and it is a number
+unfoldable pub oneOf : List (List ℕ) → Number
+oneOf [] = Number.Not
+oneOf (f ∷ []) = numberOf f
+oneOf (f ∷ g ∷ fs) = Number.Not
+
+abbrev pub allThree : Small → Small → Small → Three
+allThree (Small.Is a) (Small.Is b) (Small.Is c) = Three.Are a b c
+allThree (Small.Is a) (Small.Is b) Small.Not = Three.Not
+allThree (Small.Is a) Small.Not c = Three.Not
+allThree Small.Not b c = Three.Not
+
+-- the three numbers, where there are three fields and each is a number
+unfoldable pub threeOf : List (List ℕ) → Three
+threeOf [] = Three.Not
+threeOf (f ∷ []) = Three.Not
+threeOf (f ∷ g ∷ fs) = allThree (smallOf (numberOf f)) (smallOf (numberOf g)) (smallOf (oneOf fs))
+
+abbrev pub runOf : ℕ → Line
+runOf n = cond (leb n mostRun) (Line.Run n) Line.Bad
+
+-- a line of one number, bad without it
+abbrev pub withInstant : (ℕ → Line) → Number → Line
+withInstant f (Number.Is n) = f n
+withInstant f Number.Not = Line.Bad
+
+abbrev pub withOne : (ℕ → Line) → Small → Line
+withOne f (Small.Is n) = f n
+withOne f Small.Not = Line.Bad
+
+abbrev pub withThree : (ℕ → ℕ → ℕ → Line) → Three → Line
+withThree f (Three.Are a b c) = f a b c
+withThree f Three.Not = Line.Bad
+
+-- what a word says with the fields after it
+unfoldable pub saidOf : Word → List (List ℕ) → Line
+saidOf Word.Feed fs = withThree Line.Feed (threeOf fs)
+saidOf Word.Go fs = withInstant Line.Go (oneOf fs)
+saidOf Word.Ask fs = withThree Line.Ask (threeOf fs)
+saidOf Word.End fs = withOne Line.End (smallOf (oneOf fs))
+saidOf Word.Rest fs = withOne Line.Rest (smallOf (oneOf fs))
+saidOf Word.Run fs = withOne runOf (smallOf (oneOf fs))
+saidOf Word.Other fs = Line.Bad
+
+-- what the fields of a line say
+unfoldable pub meaningOf : List (List ℕ) → Line
+meaningOf [] = Line.Bad
+meaningOf (f ∷ fs) = saidOf (wordOf f) fs
+
+-- what a line says
+unfoldable pub lineOf : List ℕ → Line
+lineOf s = meaningOf (fieldsOf s)

@@ -1,0 +1,281 @@
+// The words of the rehearsal: what a line of input means, and how words and decimal numbers are put into a lent buffer.
+// It must not know feeds, jobs, clocks, the desk's limits, or where in a rehearsal a line stands.
+ghost use mathlib.Core.Path.{_≡_};
+ghost use Rattle.words.specs.Numbers.{isDigit, isShaped, numberOf, smallOf};
+ghost use Rattle.words.specs.Fields.{same, foundIn, lineEnd, fieldsOf};
+ghost use Rattle.words.specs.Lines.{wordOf, allThree, threeOf, runOf, saidOf, lineOf};
+ghost use lib.ListN.{drop};
+
+pub mod put;
+
+// Where a byte stands, or that it stands nowhere.
+pub enum Found {
+    At(usize),
+    Nothing,
+}
+
+// What a field is as a number.
+enum Number {
+    Is(u64),
+    Not,
+}
+
+// What a field is as a number that is not too large for its place.
+enum Small {
+    Is(u32),
+    Not,
+}
+
+// What the fields after a word are as three numbers.
+enum Three {
+    Are(u32, u32, u32),
+    Not,
+}
+
+// The first field of a line.
+enum Word {
+    Feed,
+    Go,
+    Ask,
+    End,
+    Rest,
+    Run,
+    Other,
+}
+
+// What a line says.
+pub enum Line {
+    Feed(u32, u32, u32),
+    Go(u64),
+    Ask(u32, u32, u32),
+    End(u32),
+    Rest(u32),
+    Run(u32),
+    Bad,
+}
+
+impl Number {
+    // The rehearsal's own limit on how many digits a number has.
+    const DIGITS: usize = 13;
+}
+
+impl Small {
+    // The rehearsal's own limit on a number's size, the opening instant apart.
+    const MOST: u64 = 0xFFFF_FFFF;
+}
+
+impl Line {
+    // The rehearsal's own limit on the ticks of one run.
+    pub const RUN: u32 = 4096;
+}
+
+// The first place from `from` on that holds the byte.
+fn find(s: &[u8], from: usize, byte: u8) -> Found
+    ensures { λ r. ⌜ r ≡ foundIn byte from (drop from (now (s .entry))) ⌝ }
+{
+    let mut i = from;
+    while i < s.len() {
+        if s[i] == byte {
+            return Found::At(i);
+        }
+        i += 1;
+    }
+    Found::Nothing
+}
+
+// The first place from `from` on that holds a newline.
+pub fn line_end(s: &[u8], from: usize) -> Found
+    ensures { λ r. ⌜ r ≡ lineEnd (now (s .entry)) from ⌝ }
+{
+    find(s, from, b'\n')
+}
+
+fn is_digit(b: u8) -> bool
+    ensures { λ r. ⌜ r ≡ isDigit b ⌝ }
+{
+    if b < b'0' {
+        return false;
+    }
+    b <= b'9'
+}
+
+// 1 to 13 bytes, and no 0 in front of others.
+fn is_shaped(s: &[u8]) -> bool
+    ensures { λ r. ⌜ r ≡ isShaped (now (s .entry)) ⌝ }
+{
+    if s.len() < 1 {
+        return false;
+    }
+    if Number::DIGITS < s.len() {
+        return false;
+    }
+    if s.len() == 1 {
+        return true;
+    }
+    s[0] != b'0'
+}
+
+fn read_number(s: &[u8]) -> Number
+    ensures { λ r. ⌜ r ≡ numberOf (now (s .entry)) ⌝ }
+{
+    if !is_shaped(s) {
+        return Number::Not;
+    }
+    let mut n: u64 = 0;
+    let mut i = 0;
+    while i < s.len() {
+        let b = s[i];
+        if !is_digit(b) {
+            return Number::Not;
+        }
+        n = n * 10 + wide(b - b'0');
+        i += 1;
+    }
+    Number::Is(n)
+}
+
+fn wide(b: u8) -> u64
+    ensures { λ r. ⌜ r ≡ b ⌝ }
+{
+    b as u64
+}
+
+fn read_small(s: &[u8]) -> Small
+    ensures { λ r. ⌜ r ≡ smallOf (numberOf (now (s .entry))) ⌝ }
+{
+    let Number::Is(n) = read_number(s) else {
+        return Small::Not;
+    };
+    if n <= Small::MOST {
+        Small::Is(n as u32)
+    } else {
+        Small::Not
+    }
+}
+
+fn all_three(a: Small, b: Small, c: Small) -> Three
+    ensures { λ r. ⌜ r ≡ allThree a b c ⌝ }
+{
+    let Small::Is(x) = a else {
+        return Three::Not;
+    };
+    let Small::Is(y) = b else {
+        return Three::Not;
+    };
+    let Small::Is(z) = c else {
+        return Three::Not;
+    };
+    Three::Are(x, y, z)
+}
+
+fn read_three(s: &[u8]) -> Three
+    ensures { λ r. ⌜ r ≡ threeOf (fieldsOf (now (s .entry))) ⌝ }
+{
+    let Found::At(first) = find(s, 0, b' ') else {
+        return Three::Not;
+    };
+    let from = first + 1;
+    let Found::At(second) = find(s, from, b' ') else {
+        return Three::Not;
+    };
+    let last = second + 1;
+    all_three(
+        read_small(&s[..first]),
+        read_small(&s[from..second]),
+        read_small(&s[last..]),
+    )
+}
+
+fn is_word(s: &[u8], word: &[u8]) -> bool
+    ensures { λ r. ⌜ r ≡ same (now (s .entry)) (now (word .entry)) ⌝ }
+{
+    if s.len() != word.len() {
+        return false;
+    }
+    let mut i = 0;
+    while i < s.len() {
+        if s[i] != word[i] {
+            return false;
+        }
+        i += 1;
+    }
+    true
+}
+
+fn read_word(s: &[u8]) -> Word
+    ensures { λ r. ⌜ r ≡ wordOf (now (s .entry)) ⌝ }
+{
+    if is_word(s, b"feed") {
+        return Word::Feed;
+    }
+    if is_word(s, b"go") {
+        return Word::Go;
+    }
+    if is_word(s, b"ask") {
+        return Word::Ask;
+    }
+    if is_word(s, b"end") {
+        return Word::End;
+    }
+    if is_word(s, b"rest") {
+        return Word::Rest;
+    }
+    if is_word(s, b"run") {
+        return Word::Run;
+    }
+    Word::Other
+}
+
+// What the word says with the fields after it.
+fn read_fields(word: Word, s: &[u8]) -> Line
+    ensures { λ r. ⌜ r ≡ saidOf word (fieldsOf (now (s .entry))) ⌝ }
+{
+    match word {
+        Word::Feed => match read_three(s) {
+            Three::Are(a, b, c) => Line::Feed(a, b, c),
+            Three::Not => Line::Bad,
+        },
+        Word::Go => match read_number(s) {
+            Number::Is(n) => Line::Go(n),
+            Number::Not => Line::Bad,
+        },
+        Word::Ask => match read_three(s) {
+            Three::Are(a, b, c) => Line::Ask(a, b, c),
+            Three::Not => Line::Bad,
+        },
+        Word::End => match read_small(s) {
+            Small::Is(n) => Line::End(n),
+            Small::Not => Line::Bad,
+        },
+        Word::Rest => match read_small(s) {
+            Small::Is(n) => Line::Rest(n),
+            Small::Not => Line::Bad,
+        },
+        Word::Run => match read_small(s) {
+            Small::Is(n) => run(n),
+            Small::Not => Line::Bad,
+        },
+        Word::Other => Line::Bad,
+    }
+}
+
+fn run(n: u32) -> Line
+    ensures { λ r. ⌜ r ≡ runOf n ⌝ }
+{
+    if n <= Line::RUN {
+        Line::Run(n)
+    } else {
+        Line::Bad
+    }
+}
+
+// What a line says; the newline at its end is not handed in.
+pub fn read_line(s: &[u8]) -> Line
+    ensures { λ r. ⌜ r ≡ lineOf (now (s .entry)) ⌝ }
+{
+    let Found::At(end) = find(s, 0, b' ') else {
+        return Line::Bad;
+    };
+    let from = end + 1;
+    read_fields(read_word(&s[..end]), &s[from..])
+}

@@ -1,0 +1,611 @@
+//! Random calls, answered by this program and by a library, compared whole:
+//! the answer, every field of the state handed back, every word of the buffers.
+
+use crate::boundary::{Answer, Desk, Feed, Job, Label, Library, Listed, Stepped};
+use crate::invent;
+use crate::model::{self, LAST_INSTANT};
+use crate::own::{read, write, Own};
+use crate::random::Random;
+use std::collections::BTreeMap;
+use std::io;
+
+#[cfg(feature = "calls")]
+pub fn linked(seed: u64, count: u64) -> io::Result<bool> {
+    Ok(report(seed, compare(&crate::boundary::Linked, seed, count)))
+}
+
+#[cfg(not(feature = "calls"))]
+pub fn linked(_seed: u64, _count: u64) -> io::Result<bool> {
+    Err(io::Error::other(
+        "built without the feature `calls`, so there is no library to call",
+    ))
+}
+
+/// How often each call gave each number.
+pub type Tally = BTreeMap<(&'static str, u32), u64>;
+
+fn report(seed: u64, outcome: Result<Tally, String>) -> bool {
+    match outcome {
+        Ok(tally) => {
+            for ((call, refusal), times) in &tally {
+                println!("{call:5} {refusal:2}: {times}");
+            }
+            let calls: u64 = tally.values().sum();
+            println!("seed {seed}: {calls} calls compared, no difference");
+            true
+        }
+        Err(difference) => {
+            println!("difference: seed {seed}\n{difference}");
+            false
+        }
+    }
+}
+
+// ---------------------------------------------------------------- one call
+
+#[derive(Clone, Debug)]
+enum Call {
+    Open { list: Vec<u32>, start: u64 },
+    Ask { number: u32, work: u32, lead: u32 },
+    Step,
+    End { number: u32 },
+    Rest { position: u32 },
+    List { length: usize },
+    Label { jobs: Vec<u8>, feeds: Vec<u8> },
+}
+
+#[derive(Clone, Debug, PartialEq, Eq)]
+enum Said {
+    Answer(Answer),
+    Stepped(Stepped),
+    /// With the lent buffer and the guard words behind it.
+    Listed(Listed, Vec<u64>),
+    /// With the lent lists, which must come back as they were.
+    Label(Label, Vec<u8>, Vec<u8>),
+}
+
+const LIST_MOST: usize = 3 * 64 + 5;
+const JOB_LABELS_MOST: usize = 12 * 70 + 11;
+const FEED_LABELS_MOST: usize = 8 * 17 + 7;
+const GUARD: usize = 16;
+
+/// What the buffer holds before a list call: no two words alike.
+fn unwritten() -> Vec<u64> {
+    (1..=(LIST_MOST + GUARD) as u64)
+        .map(|word| word.wrapping_mul(0xa076_1d64_78bd_642f))
+        .collect()
+}
+
+fn make(library: &dyn Library, desk: Desk, call: &Call) -> Said {
+    match call {
+        Call::Open { list, start } => Said::Answer(library.open(list, *start)),
+        Call::Ask { number, work, lead } => Said::Answer(library.ask(desk, *number, *work, *lead)),
+        Call::Step => Said::Stepped(library.step(desk)),
+        Call::End { number } => Said::Answer(library.end(desk, *number)),
+        Call::Rest { position } => Said::Answer(library.rest(desk, *position)),
+        Call::List { length } => {
+            let mut buffer = unwritten();
+            let listed = library.list(desk, &mut buffer[..*length]);
+            Said::Listed(listed, buffer)
+        }
+        Call::Label { jobs, feeds } => {
+            let (jobs, feeds) = (jobs.clone(), feeds.clone());
+            let label = library.label(desk, &jobs, &feeds);
+            Said::Label(label, jobs, feeds)
+        }
+    }
+}
+
+fn name(call: &Call) -> &'static str {
+    match call {
+        Call::Open { .. } => "open",
+        Call::Ask { .. } => "ask",
+        Call::Step => "step",
+        Call::End { .. } => "end",
+        Call::Rest { .. } => "rest",
+        Call::List { .. } => "list",
+        Call::Label { .. } => "label",
+    }
+}
+
+/// The number a call gave. Labels give none: 0 for the empty answer here, else
+/// 101 or 102 by the list, so that the tally shows that each kind came.
+fn refusal(said: &Said) -> u32 {
+    match said {
+        Said::Answer(answer) => answer.refusal,
+        Said::Stepped(stepped) => stepped.refusal,
+        Said::Listed(listed, _) => listed.refusal,
+        Said::Label(Label { length: 0, .. }, ..) => 0,
+        Said::Label(label, ..) => 100 + label.list,
+    }
+}
+
+// ---------------------------------------------------------------- the walk
+
+struct Walk<'a> {
+    library: &'a dyn Library,
+    random: Random,
+    tally: Tally,
+    calls: u64,
+    /// Lengths of buffers go round through all there are.
+    lengths: usize,
+}
+
+/// At least this many calls; an error tells the first difference.
+pub fn compare(library: &dyn Library, seed: u64, count: u64) -> Result<Tally, String> {
+    let random = Random::of(seed, 0);
+    let mut walk = Walk {
+        library,
+        random,
+        tally: Tally::new(),
+        calls: 0,
+        lengths: 0,
+    };
+    while walk.calls < count {
+        walk.walk_from_an_opening()?;
+    }
+    Ok(walk.tally)
+}
+
+impl Walk<'_> {
+    /// One call to both; hands back the state to go on from.
+    fn call(&mut self, desk: Desk, call: Call) -> Result<Desk, String> {
+        let ours = make(&Own, desk, &call);
+        let theirs = make(self.library, desk, &call);
+        if ours != theirs {
+            return Err(describe(&desk, &call, &ours, &theirs));
+        }
+        self.calls += 1;
+        *self.tally.entry((name(&call), refusal(&ours))).or_default() += 1;
+        Ok(match ours {
+            Said::Answer(answer) => answer.desk,
+            Said::Stepped(stepped) => stepped.desk,
+            Said::Listed(..) | Said::Label(..) => desk,
+        })
+    }
+
+    fn walk_from_an_opening(&mut self) -> Result<(), String> {
+        let random = &mut self.random;
+        let start = invent::start(random);
+        let mut list = invent::as_list(&invent::feeds(random, start));
+        if random.chance(15) {
+            spoil_list(random, &mut list);
+        }
+        let start = if random.chance(3) {
+            random.next()
+        } else {
+            start
+        };
+        let refused = model::open(&list, start).is_err();
+        let mut desk = self.call(Desk::default(), Call::Open { list, start })?;
+        if refused && self.random.chance(80) {
+            return Ok(());
+        }
+        if self.random.chance(5) {
+            desk = self.crowd(desk)?;
+        }
+        for _ in 0..self.random.between(5, 60) {
+            desk = self.some_calls(desk)?;
+            if self.random.chance(30) {
+                self.on_a_damaged_copy(desk)?;
+            }
+            if self.random.chance(10) {
+                self.on_an_overbooked_copy(desk)?;
+            }
+        }
+        Ok(())
+    }
+
+    /// Many small jobs with long leads, to fill the table.
+    fn crowd(&mut self, mut desk: Desk) -> Result<Desk, String> {
+        for number in (0..70).map(|job| 100 + job * 7 % 71) {
+            let work = self.random.between(1, 3) as u32;
+            let lead = 60_000 + 1_000 * self.random.below(3) as u32;
+            desk = self.call(desk, Call::Ask { number, work, lead })?;
+        }
+        Ok(desk)
+    }
+
+    /// A call on a state in order, or a short run of steps.
+    fn some_calls(&mut self, mut desk: Desk) -> Result<Desk, String> {
+        match self.random.below(100) {
+            0..=24 => {
+                for _ in 0..self.random.pick(&[1, 2, 5, 12]) {
+                    let before = desk;
+                    desk = self.call(desk, Call::Step)?;
+                    if desk == before {
+                        break; // Refused: it would be again.
+                    }
+                }
+                Ok(desk)
+            }
+            25..=29 => Ok(run_on(&mut self.random, desk)),
+            _ => {
+                let call = self.some_call(&desk);
+                self.call(desk, call)
+            }
+        }
+    }
+
+    fn some_call(&mut self, desk: &Desk) -> Call {
+        // For a state that can't be read any arguments do.
+        let state = read(desk)
+            .filter(|state| state.in_order())
+            .unwrap_or_default();
+        let random = &mut self.random;
+        match random.below(100) {
+            0..=34 => {
+                let number = invent::number(random, &state);
+                let lead = invent::lead(random, &state);
+                let work = invent::work(random, &state, number, lead) as u32;
+                Call::Ask {
+                    number,
+                    work,
+                    lead: lead as u32,
+                }
+            }
+            35..=49 => Call::Step,
+            50..=59 => Call::End {
+                number: invent::live_or_not(random, &state),
+            },
+            60..=69 => Call::Rest {
+                position: invent::position(random, &state),
+            },
+            70..=84 => self.some_list(&state),
+            _ => self.some_label(&state),
+        }
+    }
+
+    fn some_list(&mut self, state: &model::Desk) -> Call {
+        self.lengths += 1;
+        let length = if self.random.chance(50) {
+            self.lengths % (LIST_MOST + 1)
+        } else {
+            (3 * state.jobs.len() + self.random.index(4)).saturating_sub(2)
+        };
+        Call::List {
+            length: length.min(LIST_MOST),
+        }
+    }
+
+    fn some_label(&mut self, state: &model::Desk) -> Call {
+        self.lengths += 1;
+        let jobs_length = self.lengths % (JOB_LABELS_MOST + 1);
+        let feeds_length = match self.random.below(2) {
+            0 => self.random.index(FEED_LABELS_MOST + 1),
+            _ => (8 * state.feeds.len() + self.random.index(18)).saturating_sub(9),
+        };
+        let jobs = job_labels(&mut self.random, state, jobs_length);
+        let feeds = (0..feeds_length)
+            .map(|_| self.random.next() as u8)
+            .collect();
+        Call::Label { jobs, feeds }
+    }
+
+    /// Out of order by one field, mostly: then every call says so.
+    fn on_a_damaged_copy(&mut self, desk: Desk) -> Result<(), String> {
+        let mut damaged = desk;
+        damage(&mut self.random, &mut damaged);
+        for _ in 0..self.random.between(1, 4) {
+            let call = self.some_call(&damaged);
+            self.call(damaged, call)?;
+        }
+        Ok(())
+    }
+
+    /// In order but with too much to do: asks get 6, steps go on until a job is
+    /// late and the state out of order.
+    fn on_an_overbooked_copy(&mut self, desk: Desk) -> Result<(), String> {
+        let mut booked = desk;
+        overbook(&mut self.random, &mut booked);
+        for _ in 0..self.random.between(3, 20) {
+            booked = self.some_calls(booked)?;
+            if self.random.chance(10) {
+                self.on_a_damaged_copy(booked)?;
+            }
+            let in_order = read(&booked).is_some_and(|state| state.in_order());
+            if !in_order && self.random.chance(50) {
+                break;
+            }
+        }
+        Ok(())
+    }
+}
+
+/// Many ticks at once, by the model alone, to get far from the opening.
+fn run_on(random: &mut Random, desk: Desk) -> Desk {
+    let Some(mut state) = read(&desk).filter(|state| state.in_order()) else {
+        return desk;
+    };
+    let ticks = random.below(3_000).min(LAST_INSTANT - state.clock);
+    for _ in 0..ticks {
+        state.tick();
+    }
+    write(&state)
+}
+
+fn spoil_list(random: &mut Random, list: &mut Vec<u32>) {
+    match random.below(5) {
+        0 => list.extend((0..random.between(1, 8)).map(|_| 1)),
+        1 => {
+            let any = random.index(60);
+            list.resize(random.pick(&[any, 48, 49, 51, 51, 52, 54]), 1);
+        }
+        2 => list.truncate(random.index(list.len() + 1)),
+        _ if list.is_empty() => list.push(4),
+        _ => {
+            let place = random.index(list.len());
+            list[place] =
+                random.pick(&[0, 1, 2, 40_319, 40_320, 40_321, 65_536, u32::MAX, 1 << 31]);
+        }
+    }
+}
+
+/// Records for the runner, for other jobs and for none, cut to the length.
+fn job_labels(random: &mut Random, state: &model::Desk, length: usize) -> Vec<u8> {
+    let first = state
+        .jobs
+        .iter()
+        .min_by_key(|job| (job.deadline, job.number));
+    let often = random.pick(&[0, 2, 5, 50]);
+    let mut labels = Vec::new();
+    while labels.len() < length {
+        let number = match first {
+            Some(job) if random.chance(often) => job.number,
+            Some(job) if random.chance(10) => job.number.swap_bytes(),
+            _ if random.chance(30) => random.next() as u32,
+            _ if state.jobs.is_empty() => 0,
+            _ => {
+                let other = state.jobs[random.index(state.jobs.len())].number;
+                if first.is_some_and(|job| job.number == other) {
+                    0
+                } else {
+                    other
+                }
+            }
+        };
+        labels.extend(number.to_be_bytes());
+        labels.extend(random.next().to_be_bytes());
+    }
+    labels.truncate(length);
+    labels
+}
+
+// ---------------------------------------------------------------- states made by hand
+
+/// Keeps the state in order, but promises more than there is time for.
+fn overbook(random: &mut Random, desk: &mut Desk) {
+    let Some(mut state) = read(desk).filter(|state| state.in_order()) else {
+        return;
+    };
+    let clock = state.clock;
+    let room = (LAST_INSTANT - clock).min(65_536);
+    for feed in &mut state.feeds {
+        if clock >= feed.offset && random.chance(30) {
+            feed.owes = random.below(feed.work + 1);
+        }
+    }
+    if room > 0 {
+        let near = random.pick(&[1, 5, 30, 300, 65_536]).min(room);
+        for job in &mut state.jobs {
+            if random.chance(40) {
+                job.deadline = clock + random.between(1, near);
+            }
+            if random.chance(20) {
+                job.owed = random.pick(&[1, 2, 10, 65_536]);
+            }
+        }
+        for _ in 0..random.pick(&[0, 1, 1, 3, 10, 100]) {
+            let job = model::Job {
+                number: random.between(1, 300) as u32,
+                owed: random.pick(&[1, 1, 2, 3, 10, 1_000, 65_536]),
+                deadline: clock + random.between(1, near),
+            };
+            let known = state.jobs.iter().any(|other| other.number == job.number);
+            if !known && state.jobs.len() < 64 {
+                state.jobs.push(job);
+            }
+        }
+    }
+    debug_assert!(state.in_order());
+    *desk = write(&state);
+}
+
+/// One thing wrong; sometimes one field set to a value just inside its limits.
+fn damage(random: &mut Random, desk: &mut Desk) {
+    match random.below(12) {
+        0 => desk.feeds.count = random.pick(&[17, 18, 256, usize::MAX, desk.feeds.count + 1]),
+        1 => desk.table.count = random.pick(&[65, 66, 256, usize::MAX, desk.table.count + 1]),
+        2 => number_twice(desk),
+        3 => piece_before_its_offset(random, desk),
+        4 => clock_at_or_past_the_end(random, desk),
+        5 => feeds_that_would_not_pass(random, desk),
+        6 => {
+            // Garbage behind the live ones.
+            let job =
+                &mut desk.table.jobs[random.between(desk.table.count.min(63) as u64, 63) as usize];
+            set_job(job, random.below(3), 1);
+        }
+        7 => {
+            let feed =
+                &mut desk.feeds.feeds[random.between(desk.feeds.count.min(15) as u64, 15) as usize];
+            set_feed(feed, random.below(4), 1);
+        }
+        _ => one_field(random, desk),
+    }
+}
+
+fn number_twice(desk: &mut Desk) {
+    let count = desk.table.count;
+    if (2..=64).contains(&count) {
+        desk.table.jobs[count - 1].number = desk.table.jobs[0].number;
+    } else if count == 1 && desk.table.jobs[0].deadline > desk.clock {
+        desk.table.jobs[1] = desk.table.jobs[0];
+        desk.table.count = 2;
+    }
+}
+
+/// Goes back before an offset, where nothing can have come.
+fn piece_before_its_offset(random: &mut Random, desk: &mut Desk) {
+    let count = desk.feeds.count.min(16);
+    let Some(place) = (0..count).find(|&place| desk.feeds.feeds[place].offset > 0) else {
+        return one_field(random, desk);
+    };
+    desk.table = Default::default();
+    desk.clock = random.below(desk.feeds.feeds[place].offset);
+    for feed in &mut desk.feeds.feeds[..count] {
+        if desk.clock < feed.offset {
+            feed.owes = 0;
+        }
+    }
+    // Mostly the one wrong thing, else a state that is in order after all.
+    desk.feeds.feeds[place].owes = random.pick(&[0, 1, 1, 1]);
+}
+
+fn clock_at_or_past_the_end(random: &mut Random, desk: &mut Desk) {
+    desk.table = Default::default();
+    desk.clock = random.pick(&[LAST_INSTANT, LAST_INSTANT + 1, u64::MAX, LAST_INSTANT - 1]);
+}
+
+fn feeds_that_would_not_pass(random: &mut Random, desk: &mut Desk) {
+    let count = desk.feeds.count.min(16);
+    if count == 0 {
+        desk.feeds.count = 1;
+        desk.feeds.feeds[0] = Feed {
+            period: 40_321,
+            work: 1,
+            offset: 0,
+            owes: 0,
+        };
+        return;
+    }
+    let feed = &mut desk.feeds.feeds[random.index(count)];
+    match random.below(6) {
+        0 => feed.period = random.pick(&[0, 40_319, 40_321, u64::MAX, 1 << 32, 1 << 40]),
+        1 => feed.work = random.pick(&[0, 40_320, 40_321, u64::MAX, 1 << 32]),
+        2 => feed.offset = feed.period + random.below(2),
+        3 => feed.work = feed.period,
+        4 => feed.work += 1,
+        _ => feed.owes = feed.work + random.pick(&[0, 1, 1, u64::MAX / 2]),
+    }
+}
+
+/// Any one field, set to a value that is about to matter.
+fn one_field(random: &mut Random, desk: &mut Desk) {
+    let clock = desk.clock;
+    let other = desk.table.jobs[random.index(64)].number.into();
+    let values = [
+        0,
+        1,
+        clock,
+        clock.wrapping_add(1),
+        clock.wrapping_sub(1),
+        clock.wrapping_add(65_536),
+        clock.wrapping_add(65_537),
+        LAST_INSTANT,
+        LAST_INSTANT + 1,
+        40_320,
+        40_321,
+        65_536,
+        65_537,
+        u64::MAX,
+        u64::MAX - 1,
+        1 << 32,
+        other,
+    ];
+    let value = random.pick(&values);
+    match random.below(8) {
+        0 => desk.clock = value,
+        1 => desk.feeds.count = (value % 20) as usize,
+        2 => desk.table.count = (value % 70) as usize,
+        3..=4 => {
+            let among = desk.feeds.count.clamp(1, 16);
+            set_feed(
+                &mut desk.feeds.feeds[random.index(among)],
+                random.below(4),
+                value,
+            );
+        }
+        _ => {
+            let among = desk.table.count.clamp(1, 64);
+            set_job(
+                &mut desk.table.jobs[random.index(among)],
+                random.below(3),
+                value,
+            );
+        }
+    }
+}
+
+fn set_feed(feed: &mut Feed, field: u64, value: u64) {
+    match field {
+        0 => feed.period = value,
+        1 => feed.work = value,
+        2 => feed.offset = value,
+        _ => feed.owes = value,
+    }
+}
+
+fn set_job(job: &mut Job, field: u64, value: u64) {
+    match field {
+        0 => job.number = value as u32,
+        1 => job.owed = value,
+        _ => job.deadline = value,
+    }
+}
+
+// ---------------------------------------------------------------- telling a difference
+
+fn describe(desk: &Desk, call: &Call, ours: &Said, theirs: &Said) -> String {
+    format!(
+        "--- state\n{}\n--- call\n{call:?}\n--- this program\n{}\n--- the library\n{}",
+        short(desk),
+        tell(ours),
+        tell(theirs)
+    )
+}
+
+/// A state without the long tail of places that are all zero.
+fn short(desk: &Desk) -> String {
+    let mut lines = vec![format!(
+        "clock {}, {} feeds, {} jobs",
+        desk.clock, desk.feeds.count, desk.table.count
+    )];
+    for (position, feed) in (1..).zip(&desk.feeds.feeds) {
+        if *feed != Feed::default() || position <= desk.feeds.count {
+            lines.push(format!("  at {position}: {feed:?}"));
+        }
+    }
+    for (place, job) in (1..).zip(&desk.table.jobs) {
+        if *job != Job::default() || place <= desk.table.count {
+            lines.push(format!("  at {place}: {job:?}"));
+        }
+    }
+    lines.join("\n")
+}
+
+fn tell(said: &Said) -> String {
+    match said {
+        Said::Answer(answer) => format!("refusal {}\n{}", answer.refusal, short(&answer.desk)),
+        Said::Stepped(Stepped {
+            desk,
+            refusal,
+            kind,
+            number,
+            owes,
+        }) => format!(
+            "refusal {refusal}, kind {kind}, number {number}, owes {owes}\n{}",
+            short(desk)
+        ),
+        Said::Listed(listed, buffer) => {
+            let fresh = unwritten();
+            let written: Vec<(usize, &u64)> = buffer
+                .iter()
+                .enumerate()
+                .filter(|(place, word)| fresh[*place] != **word)
+                .collect();
+            format!("{listed:?}, words written {written:?}")
+        }
+        Said::Label(label, ..) => format!("{label:?}"),
+    }
+}

@@ -1,0 +1,832 @@
+//! Random scripts that try to be awkward: loads near 100 %, equal deadlines,
+//! works just at what fits, reused numbers, ends and rests in between, openings
+//! in mid-period and near the last instant, rounds of exactly 40,320, and bad
+//! lines of every kind. A script keeps the model's state beside it, so that
+//! most lines mean something where they stand.
+
+use crate::model::{open, round_of, Desk, Feed, LAST_INSTANT, ROUND_MOST};
+use crate::random::Random;
+use crate::script::INPUT_MOST;
+
+// ---------------------------------------------------------------- feeds
+
+fn divisors(of: u64) -> Vec<u64> {
+    (1..=of).filter(|divisor| of % divisor == 0).collect()
+}
+
+fn some_of(random: &mut Random, from: &[u64], most: u64) -> Vec<u64> {
+    (0..random.between(1, most))
+        .map(|_| random.pick(from))
+        .collect()
+}
+
+/// Pairs whose common multiple is exactly 40,320 (or one that is it alone).
+const FULL_ROUNDS: [&[u64]; 9] = [
+    &[40_320],
+    &[128, 315],
+    &[640, 63],
+    &[896, 45],
+    &[1_152, 35],
+    &[5_760, 7],
+    &[8_064, 5],
+    &[4_480, 9],
+    &[128, 9, 5, 7],
+];
+
+/// Periods without a common divisor, which make long rounds of short pieces.
+const PRIMES: [&[u64]; 5] = [
+    &[7, 11, 13, 17],
+    &[3, 5, 7, 11, 13],
+    &[2, 3, 5, 7, 11, 13],
+    &[8, 9, 5, 7, 11],
+    &[199, 200],
+];
+
+const SMALL_ROUNDS: [u64; 9] = [6, 12, 24, 30, 60, 72, 120, 210, 360];
+
+fn periods(random: &mut Random) -> Vec<u64> {
+    match random.below(100) {
+        0..=11 => Vec::new(),
+        12..=54 => {
+            let round = random.pick(&SMALL_ROUNDS);
+            let most = random.pick(&[2, 4, 4, 8, 16]);
+            some_of(random, &divisors(round), most)
+        }
+        55..=69 => {
+            let mut periods = random.pick(&FULL_ROUNDS).to_vec();
+            let most = random.pick(&[1, 3, 12]);
+            // Long divisors mostly, as short periods soon fill the load.
+            let long: Vec<u64> = divisors(ROUND_MOST)
+                .into_iter()
+                .filter(|&d| d > 20)
+                .collect();
+            periods.extend(some_of(random, &long, most));
+            periods
+        }
+        70..=79 => random.pick(&PRIMES).to_vec(),
+        80..=87 => some_of(random, &[1, 2, 3, 4], 6),
+        88..=92 => vec![random.between(1, 40); random.between(8, 16) as usize],
+        93..=96 => (0..random.between(1, 3))
+            .map(|_| random.between(1, 300))
+            .collect(),
+        _ => (0..random.between(1, 2))
+            .map(|_| random.between(1, ROUND_MOST))
+            .collect(),
+    }
+}
+
+fn shuffle<T>(random: &mut Random, items: &mut [T]) {
+    for place in (1..items.len()).rev() {
+        items.swap(place, random.index(place + 1));
+    }
+}
+
+/// How full the round is made.
+#[derive(Clone, Copy)]
+enum Load {
+    Some,
+    Full,
+    /// Just above what line 10 allows.
+    Over,
+}
+
+/// Works for these periods: at least 1 each, dropping feeds that find no room.
+fn with_works(random: &mut Random, periods: Vec<u64>, load: Load) -> Vec<Feed> {
+    let feed = |period| Feed {
+        period,
+        work: 1,
+        offset: 0,
+        owes: 0,
+    };
+    let mut feeds: Vec<Feed> = periods.into_iter().map(feed).collect();
+    let Some(round) = round_of(&feeds) else {
+        return feeds;
+    };
+    let mut room = round;
+    feeds.retain(|feed| {
+        let fits = round / feed.period <= room;
+        room -= if fits { round / feed.period } else { 0 };
+        fits
+    });
+    shuffle(random, &mut feeds);
+    for feed in &mut feeds {
+        let most = room / (round / feed.period);
+        let more = if most == 0 { 0 } else { random.below(most + 1) };
+        let more = if random.chance(40) { more / 3 } else { more };
+        feed.work += more;
+        room -= more * (round / feed.period);
+    }
+    if !matches!(load, Load::Some) {
+        fill(&mut feeds, round, room, matches!(load, Load::Over));
+    }
+    feeds
+}
+
+/// Gives what room is left, shortest periods first so that the finest comes
+/// last; and one tick too many if wanted.
+fn fill(feeds: &mut [Feed], round: u64, mut room: u64, over: bool) {
+    let mut order: Vec<usize> = (0..feeds.len()).collect();
+    order.sort_by_key(|&place| feeds[place].period);
+    for &place in &order {
+        let cost = round / feeds[place].period;
+        feeds[place].work += room / cost;
+        room %= cost;
+    }
+    if let (true, Some(&finest)) = (over, order.last()) {
+        feeds[finest].work += 1;
+    }
+}
+
+/// Feeds that mostly pass the opening, with any offsets.
+pub fn feeds(random: &mut Random, start: u64) -> Vec<Feed> {
+    let load = match random.below(100) {
+        0..=29 => Load::Some,
+        30..=94 => Load::Full,
+        _ => Load::Over,
+    };
+    let periods = periods(random);
+    let mut feeds = with_works(random, periods, load);
+    let kind = random.below(4);
+    for feed in &mut feeds {
+        feed.offset = match kind {
+            0 => 0,
+            1 => start % feed.period,
+            2 => random.below(feed.period),
+            _ => {
+                let near = random.below(4);
+                (start + near) % feed.period
+            }
+        };
+    }
+    feeds
+}
+
+pub fn start(random: &mut Random) -> u64 {
+    match random.below(100) {
+        0..=29 => 0,
+        30..=49 => random.below(100),
+        50..=69 => random.below(100_000),
+        70..=77 => random.below(LAST_INSTANT),
+        78..=85 => LAST_INSTANT - random.below(300),
+        86..=93 => LAST_INSTANT - 65_536 + random.below(80) - 40,
+        94..=97 => LAST_INSTANT - random.below(110_000),
+        98 => LAST_INSTANT,
+        _ => random.pick(&[
+            LAST_INSTANT + 1,
+            9_999_999_999_999,
+            LAST_INSTANT + 1_000_000,
+        ]),
+    }
+}
+
+pub fn as_list(feeds: &[Feed]) -> Vec<u32> {
+    feeds
+        .iter()
+        .flat_map(|f| [f.period as u32, f.work as u32, f.offset as u32])
+        .collect()
+}
+
+// ---------------------------------------------------------------- calls
+
+/// A lead: often such that the deadline falls together with another one.
+pub fn lead(random: &mut Random, desk: &Desk) -> u64 {
+    let round = round_of(&desk.feeds).unwrap_or(1);
+    match random.below(100) {
+        0..=14 if !desk.jobs.is_empty() => desk.jobs[random.index(desk.jobs.len())]
+            .deadline
+            .saturating_sub(desk.clock),
+        15..=44 if !desk.feeds.is_empty() => {
+            let feed = desk.feeds[random.index(desk.feeds.len())];
+            let pieces = random.pick(&[0, 0, 0, 1, 1, 2, 3, 7]);
+            let near = feed.next_release(desk.clock) - desk.clock + pieces * feed.period;
+            near + random.pick(&[0, 0, 0, 1])
+        }
+        45..=59 => random.between(1, 20),
+        60..=79 => random.between(1, 2 * round),
+        80..=86 => random.between(1, 65_536),
+        87..=92 if LAST_INSTANT - desk.clock <= 65_536 => {
+            LAST_INSTANT - desk.clock + random.pick(&[0, 0, 1])
+        }
+        93..=95 => 65_536,
+        96 => 65_537,
+        97 => 0,
+        _ => random.pick(&[1, 2, 3, 4_294_967_295, 65_535]),
+    }
+}
+
+/// The most work that fits with this lead, 0 if none does, found by asking.
+fn most_that_fits(desk: &Desk, number: u32, lead: u64) -> u64 {
+    let fits = |work: u64| desk.ask(number, work as u32, lead as u32).is_ok();
+    let (mut fitting, mut beyond) = (0, lead.min(65_536) + 1);
+    while beyond - fitting > 1 {
+        let middle = (fitting + beyond) / 2;
+        if fits(middle) {
+            fitting = middle;
+        } else {
+            beyond = middle;
+        }
+    }
+    fitting
+}
+
+pub fn work(random: &mut Random, desk: &Desk, number: u32, lead: u64) -> u64 {
+    match random.below(100) {
+        0..=49 => {
+            let most = most_that_fits(desk, number, lead);
+            match random.below(5) {
+                0 => most + 1,
+                1 | 2 => most,
+                3 => most / 2 + 1,
+                _ => random.between(1, most + 1),
+            }
+        }
+        50..=64 => random.between(1, 4),
+        65..=84 => random.between(1, lead.clamp(1, 65_536)),
+        85..=92 => random.between(1, lead.clamp(1, 65_536) / 4 + 1),
+        93..=94 => 0,
+        95..=96 => 65_536,
+        97 => 65_537,
+        _ => random.pick(&[1, 4_294_967_295, 40_321, 65_535]),
+    }
+}
+
+/// A job number out of a small pool, so that numbers come back.
+pub fn number(random: &mut Random, desk: &Desk) -> u32 {
+    match random.below(100) {
+        0..=7 if !desk.jobs.is_empty() => desk.jobs[random.index(desk.jobs.len())].number,
+        8..=84 => random.between(1, 12) as u32,
+        85..=86 => 0,
+        87..=89 => random.pick(&[4_294_967_295, 4_294_967_294, 2_147_483_648, 65_536]),
+        90..=95 => random.between(1, 200) as u32,
+        _ => random.next() as u32,
+    }
+}
+
+pub fn live_or_not(random: &mut Random, desk: &Desk) -> u32 {
+    if !desk.jobs.is_empty() && random.chance(75) {
+        desk.jobs[random.index(desk.jobs.len())].number
+    } else {
+        number(random, desk)
+    }
+}
+
+pub fn position(random: &mut Random, desk: &Desk) -> u32 {
+    match random.below(100) {
+        0..=79 if !desk.feeds.is_empty() => random.between(1, desk.feeds.len() as u64) as u32,
+        80..=84 => 0,
+        85..=92 => desk.feeds.len() as u32 + 1,
+        _ => random.pick(&[16, 17, 4_294_967_295, 256]),
+    }
+}
+
+// ---------------------------------------------------------------- scripts
+
+/// A script as it grows, with the state that its lines have led to.
+struct Script {
+    lines: Vec<String>,
+    desk: Desk,
+    /// Ticks it may still run, so that most answers stay small.
+    ticks: u64,
+}
+
+impl Script {
+    fn opening(random: &mut Random, ticks: u64) -> Option<Script> {
+        let start = start(random);
+        let feeds = feeds(random, start);
+        Script::open(&feeds, start, ticks)
+    }
+
+    fn open(feeds: &[Feed], start: u64, ticks: u64) -> Option<Script> {
+        let lines = opening_lines(feeds, start);
+        let desk = open(&as_list(feeds), start).ok()?;
+        Some(Script { lines, desk, ticks })
+    }
+
+    fn ask(&mut self, number: u32, work: u64, lead: u64) {
+        self.lines.push(format!("ask {number} {work} {lead}"));
+        if let Ok(desk) = self.desk.ask(number, work as u32, lead as u32) {
+            self.desk = desk;
+        }
+    }
+
+    fn some_ask(&mut self, random: &mut Random) {
+        let number = number(random, &self.desk);
+        let lead = lead(random, &self.desk);
+        let work = work(random, &self.desk, number, lead);
+        self.ask(number, work, lead);
+    }
+
+    fn some_end(&mut self, random: &mut Random) {
+        let number = live_or_not(random, &self.desk);
+        self.lines.push(format!("end {number}"));
+        if let Ok(desk) = self.desk.end(number) {
+            self.desk = desk;
+        }
+    }
+
+    fn some_rest(&mut self, random: &mut Random) {
+        let position = position(random, &self.desk);
+        self.lines.push(format!("rest {position}"));
+        if let Ok(desk) = self.desk.rest(position) {
+            self.desk = desk;
+        }
+    }
+
+    fn run(&mut self, ticks: u64) {
+        let ticks = ticks.min(4_096).min(self.ticks);
+        self.ticks -= ticks;
+        self.lines.push(format!("run {ticks}"));
+        for _ in 0..ticks.min(LAST_INSTANT - self.desk.clock) {
+            self.desk.tick();
+        }
+    }
+
+    fn some_run(&mut self, random: &mut Random) {
+        let round = round_of(&self.desk.feeds).unwrap_or(1);
+        let ticks = match random.below(100) {
+            0..=39 => random.between(1, 5),
+            40..=69 => random.between(1, 30),
+            70..=84 => random.between(0, round.min(400)),
+            85..=94 => random.between(0, 400),
+            95 => 0,
+            _ => random.between(1, 4_096),
+        };
+        self.run(ticks);
+    }
+
+    fn some_line(&mut self, random: &mut Random) {
+        match random.below(100) {
+            0..=44 => self.some_ask(random),
+            45..=74 => self.some_run(random),
+            75..=86 => self.some_end(random),
+            _ => self.some_rest(random),
+        }
+    }
+
+    fn text(&self) -> Vec<u8> {
+        text(&self.lines)
+    }
+}
+
+fn opening_lines(feeds: &[Feed], start: u64) -> Vec<String> {
+    let feed_line = |f: &Feed| format!("feed {} {} {}", f.period, f.work, f.offset);
+    let mut lines: Vec<String> = feeds.iter().map(feed_line).collect();
+    lines.push(format!("go {start}"));
+    lines
+}
+
+fn text(lines: &[String]) -> Vec<u8> {
+    lines
+        .iter()
+        .flat_map(|line| [line.as_bytes(), b"\n"].concat())
+        .collect()
+}
+
+/// The script of this seed and item; the kinds come in turn by chance.
+pub fn script(seed: u64, item: u64) -> Vec<u8> {
+    let random = &mut Random::of(seed, item);
+    match random.below(1_000) {
+        0..=599 => ordinary(random, 3, 25, 1_500),
+        600..=659 => crowd(random),
+        660..=689 => strange_opening(random),
+        690..=829 => with_bad_line(random),
+        830..=919 => with_bytes_changed(random),
+        920..=934 => sized(random),
+        935..=974 => at_the_end_of_time(random),
+        975..=989 => ordinary(random, 30, 120, 3_000),
+        990..=996 => ordinary(random, 20, 40, 40_000),
+        _ => ordinary(random, 1, 3, 100),
+    }
+}
+
+/// Opening and some lines. If the opening is refused the program stops there,
+/// and the lines after it must not be read.
+fn ordinary(random: &mut Random, least: u64, most: u64, ticks: u64) -> Vec<u8> {
+    let start = start(random);
+    let feeds = feeds(random, start);
+    match Script::open(&feeds, start, ticks) {
+        Some(mut script) => {
+            for _ in 0..random.between(least, most) {
+                script.some_line(random);
+            }
+            if random.chance(60) {
+                script.some_run(random);
+            }
+            script.text()
+        }
+        None => {
+            let mut lines = opening_lines(&feeds, start);
+            lines.push(
+                random
+                    .pick(&["run 3", "nonsense", "", "ask 1 1 1", "go 0"])
+                    .to_string(),
+            );
+            text(&lines)
+        }
+    }
+}
+
+/// As `ordinary`, but surely opened.
+fn opened(random: &mut Random, ticks: u64) -> Script {
+    loop {
+        if let Some(script) = Script::opening(random, ticks) {
+            return script;
+        }
+    }
+}
+
+/// Many small jobs with long leads: the table fills and refuses by 5.
+fn crowd(random: &mut Random) -> Vec<u8> {
+    let start = random.pick(&[0, 5, 1_000, LAST_INSTANT - 65_536, LAST_INSTANT - 70_000]);
+    let feeds = match random.below(3) {
+        0 => Vec::new(),
+        1 => vec![Feed {
+            period: 12,
+            work: 5,
+            offset: random.below(12),
+            owes: 0,
+        }],
+        _ => vec![
+            Feed {
+                period: 10,
+                work: 2,
+                offset: random.below(10),
+                owes: 0,
+            },
+            Feed {
+                period: 4,
+                work: 1,
+                offset: random.below(4),
+                owes: 0,
+            },
+        ],
+    };
+    let mut script = Script::open(&feeds, start, 1_000).expect("these feeds pass");
+    let deadlines = random.between(1, 5);
+    let most = random.pick(&[1, 3, 20]);
+    for job in 0..random.between(60, 70) {
+        let lead = 64_000 + 300 * random.below(deadlines);
+        let number = if random.chance(90) {
+            1_000 - job as u32
+        } else {
+            number(random, &script.desk)
+        };
+        let work = random.between(1, most);
+        script.ask(number, work, lead);
+    }
+    for _ in 0..random.between(5, 20) {
+        if random.chance(50) {
+            let number = random.between(900, 1_010) as u32;
+            let lead = lead(random, &script.desk);
+            script.ask(number, 1 + random.below(3), lead);
+        } else {
+            script.some_line(random);
+        }
+    }
+    script.text()
+}
+
+/// Openings at and over each limit.
+fn strange_opening(random: &mut Random) -> Vec<u8> {
+    let start_words: [String; 8] = [
+        "0".into(),
+        "1".into(),
+        LAST_INSTANT.to_string(),
+        (LAST_INSTANT + 1).to_string(),
+        (LAST_INSTANT - 1).to_string(),
+        "9999999999999".into(),
+        "4294967295".into(),
+        "4294967296".into(),
+    ];
+    let odd: [u64; 10] = [0, 1, 2, 40_319, 40_320, 40_321, 65_536, 4_294_967_295, 7, 3];
+    let many = random.pick(&[0, 1, 1, 2, 2, 3, 15, 16, 17]);
+    let mut lines = Vec::new();
+    for _ in 0..many {
+        let period = if random.chance(50) {
+            random.pick(&odd)
+        } else {
+            random.between(1, 40)
+        };
+        let work = if random.chance(20) {
+            random.pick(&odd)
+        } else {
+            1
+        };
+        let offset = match random.below(4) {
+            0 => period,
+            1 => period.saturating_sub(1),
+            2 => random.pick(&odd),
+            _ => 0,
+        };
+        lines.push(format!("feed {period} {work} {offset}"));
+    }
+    if random.chance(50) {
+        // All alike and within limits, so that only the count or the load matters.
+        let period = random.between(12, 20);
+        lines = vec![format!("feed {period} 1 {}", random.below(period)); many];
+    }
+    lines.push(format!("go {}", start_words[random.index(8)]));
+    lines.push("ask 1 1 1".into());
+    lines.push("run 3".into());
+    text(&lines)
+}
+
+const BAD_LINES: [&str; 71] = [
+    "",
+    " ",
+    "go",
+    "go ",
+    "go 0",
+    "go 0 ",
+    " go 0",
+    "go  0",
+    "go 00",
+    "go 01",
+    "go -1",
+    "go +1",
+    "go 0x1",
+    "go 10000000000000",
+    "go 00000000000000",
+    "go 99999999999999999999",
+    "go 0 0",
+    "Go 0",
+    "GO 0",
+    "goo 0",
+    "g 0",
+    "feed",
+    "feed 4 1",
+    "feed 4 1 0",
+    "feed 4 1 0 0",
+    "feed 4 1 00",
+    "feed 04 1 0",
+    "feed 4  1 0",
+    "feed 4 1 0 ",
+    "feed 4294967296 1 0",
+    "feed 4 4294967296 0",
+    "feed 4 1 4294967296",
+    "feed 12345678901234 1 0",
+    "feed a 1 0",
+    "feeds 4 1 0",
+    "ask",
+    "ask 1 1",
+    "ask 1 1 1 1",
+    "ask 1 1 1 ",
+    "ask  1 1 1",
+    "ask 01 1 1",
+    "ask 1 01 1",
+    "ask 1 1 01",
+    "ask 4294967296 1 1",
+    "ask 1 4294967296 1",
+    "ask 1 1 4294967296",
+    "ask 9999999999999 1 1",
+    "ask 1 1 10000000000000",
+    "ask,1,1,1",
+    "ask\t1\t1\t1",
+    "end",
+    "end ",
+    "end 01",
+    "end 1 1",
+    "end 4294967296",
+    "end 1\r",
+    "rest",
+    "rest 4294967296",
+    "rest 00",
+    "rest 1 ",
+    "rest 1.0",
+    "run",
+    "run 4097",
+    "run 04096",
+    "run 4294967296",
+    "run 1 1",
+    "run 10000000000000",
+    "# comment",
+    "run 1\0",
+    "list",
+    "quit",
+];
+
+/// Lines that are on the good side of a limit.
+const EDGE_LINES: [&str; 10] = [
+    "run 0",
+    "ask 4294967295 1 1",
+    "ask 1 4294967295 1",
+    "ask 1 1 4294967295",
+    "ask 0 0 0",
+    "end 4294967295",
+    "end 0",
+    "rest 4294967295",
+    "rest 0",
+    "run 4096",
+];
+
+fn with_bad_line(random: &mut Random) -> Vec<u8> {
+    let mut script = opened(random, 200);
+    for _ in 0..random.between(0, 8) {
+        script.some_line(random);
+    }
+    let mut lines = script.lines;
+    let opening = lines
+        .iter()
+        .position(|line| line.starts_with("go"))
+        .expect("it opens");
+    match random.below(10) {
+        0..=5 => {
+            let place = random.index(lines.len() + 1);
+            lines.insert(place, random.pick(&BAD_LINES).to_string());
+        }
+        // A feed too many, whether or not the others pass.
+        6 => {
+            let feeds = vec![format!("feed {} 1 0", random.pick(&[1, 16, 18, 20])); 18];
+            lines.splice(0..opening, feeds);
+        }
+        // A second go, and lines before the first.
+        7 => {
+            let (from, to) = (random.index(lines.len()), random.index(lines.len()));
+            let line = lines.remove(from);
+            lines.insert(to, line);
+        }
+        8 => {
+            let place = random.between(opening as u64 + 1, lines.len() as u64) as usize;
+            lines.insert(place, random.pick(&EDGE_LINES).to_string());
+        }
+        // The last newline missing.
+        _ => {
+            let mut text = text(&lines);
+            text.pop();
+            return text;
+        }
+    }
+    text(&lines)
+}
+
+fn with_bytes_changed(random: &mut Random) -> Vec<u8> {
+    let mut script = opened(random, 100);
+    for _ in 0..random.between(0, 6) {
+        script.some_line(random);
+    }
+    let mut text = script.text();
+    for _ in 0..random.between(1, 2) {
+        let place = random.index(text.len());
+        match random.below(6) {
+            0 => text[place] = random.next() as u8,
+            1 => text[place] = random.pick(b"0123456789 \n"),
+            2 => text.insert(place, random.pick(b"0123456789 \n")),
+            3 => {
+                text.remove(place);
+            }
+            4 => text.truncate(place),
+            _ => {
+                let other = random.index(text.len());
+                text.swap(place, other);
+            }
+        }
+        if text.is_empty() {
+            break;
+        }
+    }
+    text
+}
+
+/// Inputs of exactly the most bytes, or one less, or one or more too many.
+fn sized(random: &mut Random) -> Vec<u8> {
+    let mut script = opened(random, 100);
+    for _ in 0..random.between(0, 6) {
+        script.some_line(random);
+    }
+    let size =
+        INPUT_MOST as u64 + random.pick(&[0, 0, 0, 1, 1, 2, 5_000]) - random.pick(&[0, 0, 1]);
+    let mut text = script.text();
+    pad(random, &mut text, size as usize);
+    match random.below(6) {
+        0 => text[size as usize - 1] = b'7',
+        1 => text = vec![b'\n'; size as usize],
+        _ => (),
+    }
+    text
+}
+
+/// Lines of 6 to 15 bytes up to exactly this size.
+fn pad(random: &mut Random, text: &mut Vec<u8>, size: usize) {
+    while text.len() < size {
+        let missing = size - text.len();
+        let length = match missing {
+            0..=15 => missing,
+            16..=30 => missing / 2,
+            _ => 15 - random.index(3),
+        };
+        let digits: String = (6..length).map(|_| random.pick(&['0', '1', '2'])).collect();
+        text.extend(format!("end 1{digits}\n").bytes());
+    }
+}
+
+/// Openings so late that runs and asks meet the last instant.
+fn at_the_end_of_time(random: &mut Random) -> Vec<u8> {
+    let mut script = loop {
+        let start = LAST_INSTANT - random.below(60);
+        let feeds = feeds(random, start);
+        if let Some(script) = Script::open(&feeds, start, 400) {
+            break script;
+        }
+    };
+    for _ in 0..random.between(2, 14) {
+        let left = LAST_INSTANT - script.desk.clock;
+        match random.below(10) {
+            0..=3 => {
+                let number = number(random, &script.desk);
+                let lead = left + random.below(3) - left.min(1);
+                let work = work(random, &script.desk, number, lead);
+                script.ask(number, work, lead);
+            }
+            4..=5 => script.run(left / 2 + random.below(3)),
+            _ => script.some_line(random),
+        }
+    }
+    script.run(random.pick(&[1, 70, 100]));
+    script.run(random.below(3));
+    script.some_line(random);
+    script.text()
+}
+
+/// The longest answer: the most `run 4096` lines that 65,536 bytes hold.
+pub fn flood() -> Vec<u8> {
+    let mut text =
+        b"feed 4 1 0\nfeed 6 2 0\nfeed 40320 7 99\ngo 1099482627776\nask 7 9000 65536\n".to_vec();
+    while text.len() + 9 <= INPUT_MOST {
+        text.extend(b"run 4096\n");
+    }
+    pad(&mut Random::of(0, 0), &mut text, INPUT_MOST);
+    text
+}
+
+// ---------------------------------------------------------------- fixed scripts
+
+/// Scripts that every comparison begins with: each bad line before and after
+/// `go` and alone, each limit on both sides, each bench example.
+pub fn fixed() -> Vec<Vec<u8>> {
+    let mut scripts: Vec<String> = vec!["".into(), "\n".into(), "go 0".into()];
+    for line in BAD_LINES {
+        scripts.push(format!("{line}\n"));
+        scripts.push(format!("feed 4 1 0\n{line}\ngo 0\nrun 1\n"));
+        scripts.push(format!("feed 4 1 0\ngo 0\n{line}\nrun 1\n"));
+        scripts.push(format!("feed 4 1 0\ngo 0\n{line}"));
+    }
+    for line in EDGE_LINES {
+        scripts.push(format!("feed 4 1 0\ngo 0\n{line}\nrun 1\n"));
+    }
+    for start in STARTS {
+        scripts.push(format!(
+            "feed 4 1 0\ngo {start}\nask 1 1 1\nrun 2\nrun 1\nend 1\n"
+        ));
+    }
+    for count in 15..=18 {
+        let feeds = |feed: &str| feed.repeat(count);
+        scripts.push(feeds("feed 20 1 0\n") + "go 0\nrun 40\n");
+        scripts.push(feeds("feed 0 1 0\n") + "go 1099511627777\nrun 40\n");
+    }
+    scripts.extend(BENCH.iter().map(|script| script.to_string()));
+    let texts = scripts.into_iter().map(String::into_bytes);
+    texts.chain(at_the_size_limit()).collect()
+}
+
+const STARTS: [&str; 8] = [
+    "1099511627775",
+    "1099511627776",
+    "1099511627777",
+    "9999999999999",
+    "10000000000000",
+    "4294967295",
+    "4294967296",
+    "3",
+];
+
+/// The document's example and its bench examples, in the program's words.
+pub const BENCH: [&str; 14] = [
+    "feed 4 1 0\nfeed 6 2 0\ngo 0\nask 1 3 6\nask 2 1 6\nrun 12\n",
+    "feed 4 1 0\nfeed 6 2 0\ngo 0\nask 1 4 6\n",
+    "feed 4 1 0\nfeed 6 2 0\ngo 0\nask 1 4 7\nrun 24\n",
+    "feed 4 1 0\nfeed 6 2 0\ngo 0\nask 1 5 12\nrun 24\n",
+    "feed 4 1 0\nfeed 6 2 0\ngo 0\nask 1 6 12\nrun 24\n",
+    "feed 4 1 0\nfeed 6 2 0\ngo 0\nask 1 6 13\nrun 24\n",
+    "feed 2 1 0\nfeed 4 2 0\ngo 0\nask 1 1 65536\nrun 8\n",
+    "feed 2 1 0\nfeed 4 2 0\ngo 0\nrest 1\nask 1 1 1\nrun 8\n",
+    "feed 4 4 0\ngo 0\nask 1 1 1\nrun 8\n",
+    "go 0\nask 1 3 4\nask 2 2 2\nrun 8\n",
+    "feed 40319 1 0\nfeed 2 1 0\ngo 0\n",
+    "feed 2 1 0\nfeed 3 2 0\ngo 0\n",
+    "go 1099511562240\nask 1 1 65536\nrun 2\n",
+    "go 1099511562240\nrun 1\nask 1 1 65536\nrun 2\n",
+];
+
+/// Whole lines up to one byte less than the most, the most, and one more; then
+/// the same without the last newline, and with nothing but newlines.
+fn at_the_size_limit() -> Vec<Vec<u8>> {
+    let mut scripts = Vec::new();
+    for size in [INPUT_MOST - 1, INPUT_MOST, INPUT_MOST + 1] {
+        let mut whole = b"go 0\n".to_vec();
+        pad(&mut Random::of(0, size as u64), &mut whole, size);
+        let mut cut = whole.clone();
+        cut[size - 1] = b'7';
+        scripts.extend([whole, cut, vec![b'\n'; size], vec![b'7'; size]]);
+    }
+    scripts
+}

@@ -1,0 +1,70 @@
+//! The second program: the desk again, from the document alone and by another
+//! method, to be compared with the real one.
+
+// Without the library nothing calls what only `second calls` uses (the tests do).
+#![cfg_attr(not(feature = "calls"), allow(dead_code))]
+
+mod ahead;
+mod boundary;
+mod calls;
+mod compare;
+mod invent;
+mod model;
+mod own;
+mod random;
+mod script;
+#[cfg(test)]
+mod tests;
+
+use std::io::{self, Read, Write};
+use std::process::ExitCode;
+
+const USAGE: &str = "usage:
+  second rehearse                     a script on standard input, answered
+  second gen SEED COUNT DIR           random scripts, and answers, as files in DIR
+  second scripts PROGRAM SEED COUNT   random scripts beside the real program
+  second flood PROGRAM                65,536 bytes of the longest runs beside it
+  second calls SEED COUNT             random calls beside the C library (feature calls)";
+
+fn main() -> ExitCode {
+    let words: Vec<String> = std::env::args().skip(1).collect();
+    let words: Vec<&str> = words.iter().map(String::as_str).collect();
+    let done = match words[..] {
+        ["rehearse"] => rehearse().map(|()| true),
+        ["gen", seed, count, dir] => numbers(seed, count)
+            .and_then(|(seed, count)| compare::write_scripts(seed, count, dir).map(|()| true)),
+        ["scripts", program, seed, count] => {
+            numbers(seed, count).and_then(|(seed, count)| compare::scripts(program, seed, count))
+        }
+        ["flood", program] => compare::flood(program),
+        ["calls", seed, count] => {
+            numbers(seed, count).and_then(|(seed, count)| calls::linked(seed, count))
+        }
+        _ => Err(io::Error::other(USAGE)),
+    };
+    match done {
+        Ok(true) => ExitCode::SUCCESS,
+        Ok(false) => ExitCode::from(1),
+        Err(error) => {
+            eprintln!("{error}");
+            ExitCode::from(2)
+        }
+    }
+}
+
+fn numbers(seed: &str, count: &str) -> io::Result<(u64, u64)> {
+    match (seed.parse(), count.parse()) {
+        (Ok(seed), Ok(count)) => Ok((seed, count)),
+        _ => Err(io::Error::other(USAGE)),
+    }
+}
+
+fn rehearse() -> io::Result<()> {
+    let mut input = Vec::new();
+    // One byte more than allowed is enough to see that there are too many.
+    let most = script::INPUT_MOST as u64 + 1;
+    io::stdin().take(most).read_to_end(&mut input)?;
+    let mut out = io::BufWriter::new(io::stdout().lock());
+    script::rehearse(&input, &mut out)?;
+    out.flush()
+}

@@ -1,0 +1,378 @@
+//! A plain model of the desk, in the document's words and nothing cleverer.
+//!
+//! Every call follows the document's order of refusals. The one hard question,
+//! whether a request fits, is not answered here: see `ahead`.
+
+use crate::ahead;
+
+/// A reading of the clock, or a deadline.
+pub type Instant = u64;
+/// A work, a period, a lead.
+pub type Length = u64;
+
+pub const LAST_INSTANT: Instant = 1 << 40;
+pub const JOB_LENGTH_MOST: Length = 65_536;
+pub const JOBS_MOST: usize = 64;
+pub const FEEDS_MOST: usize = 16;
+pub const FEED_LENGTH_MOST: Length = 40_320;
+pub const ROUND_MOST: Length = 40_320;
+
+/// The document's numbers, table "What each number says".
+pub type Refusal = u32;
+pub const NUMBER_ZERO: Refusal = 1;
+pub const OUTSIDE_LIMITS: Refusal = 2;
+pub const PAST_LAST_INSTANT: Refusal = 3;
+pub const NUMBER_LIVE: Refusal = 4;
+pub const TABLE_FULL: Refusal = 5;
+pub const DOES_NOT_FIT: Refusal = 6;
+pub const NO_SUCH: Refusal = 7;
+pub const TOO_MANY_FEEDS: Refusal = 8;
+pub const ROUND_TOO_LONG: Refusal = 9;
+pub const LOAD_TOO_HIGH: Refusal = 10;
+pub const BUFFER_TOO_SHORT: Refusal = 11;
+pub const LIST_NOT_IN_THREES: Refusal = 12;
+pub const NOT_IN_ORDER: Refusal = 13;
+
+#[derive(Clone, Copy, Debug, PartialEq, Eq)]
+pub struct Feed {
+    pub period: Length,
+    pub work: Length,
+    pub offset: Length,
+    /// What the current piece still owes; 0 also while none has come.
+    pub owes: Length,
+}
+
+#[derive(Clone, Copy, Debug, PartialEq, Eq)]
+pub struct Job {
+    pub number: u32,
+    pub owed: Length,
+    pub deadline: Instant,
+}
+
+/// The desk's state. Jobs stand in the order of their yes.
+#[derive(Clone, Debug, PartialEq, Eq, Default)]
+pub struct Desk {
+    pub clock: Instant,
+    pub feeds: Vec<Feed>,
+    pub jobs: Vec<Job>,
+}
+
+/// Who gets a tick.
+#[derive(Clone, Copy, Debug, PartialEq, Eq)]
+pub enum Runner {
+    Idle,
+    Job(u32),
+    /// By position, counted from 1.
+    Feed(u32),
+}
+
+/// What a step answers: the runner and what it still owes after the tick.
+#[derive(Clone, Copy, Debug, PartialEq, Eq)]
+pub struct Ran {
+    pub runner: Runner,
+    pub owes: Length,
+}
+
+/// The place of a label in one of the two lent lists.
+#[derive(Clone, Copy, Debug, PartialEq, Eq)]
+pub enum Place {
+    Empty,
+    InJobLabels(usize),
+    InFeedLabels(usize),
+}
+
+impl Feed {
+    pub fn releases_at(&self, instant: Instant) -> bool {
+        instant % self.period == self.offset
+    }
+
+    /// The first release after the instant. As a piece's deadline is its
+    /// release plus the period, this is also the deadline of the piece that is
+    /// current at the instant (if one has come).
+    pub fn next_release(&self, instant: Instant) -> Instant {
+        if instant < self.offset {
+            self.offset
+        } else {
+            instant + self.period - (instant - self.offset) % self.period
+        }
+    }
+}
+
+/// Euclid's rule.
+fn common_divisor(larger: u64, smaller: u64) -> u64 {
+    if smaller == 0 {
+        larger
+    } else {
+        common_divisor(smaller, larger % smaller)
+    }
+}
+
+/// The round of these periods, or nothing if it is above its limit. A common
+/// multiple only grows with each further period, so stopping early is safe.
+pub fn round_of(feeds: &[Feed]) -> Option<Length> {
+    let mut round = 1;
+    for feed in feeds {
+        round = round / common_divisor(round, feed.period) * feed.period;
+        if round > ROUND_MOST {
+            return None;
+        }
+    }
+    Some(round)
+}
+
+fn within(value: u64, from: u64, to: u64) -> bool {
+    from <= value && value <= to
+}
+
+fn feed_within_limits(feed: &Feed) -> bool {
+    within(feed.period, 1, FEED_LENGTH_MOST)
+        && within(feed.work, 1, FEED_LENGTH_MOST)
+        && feed.offset < feed.period
+}
+
+/// Lines 2, 9 and 10 of the opening, in that order.
+fn feeds_refusal(feeds: &[Feed]) -> Option<Refusal> {
+    if !feeds.iter().all(feed_within_limits) {
+        return Some(OUTSIDE_LIMITS);
+    }
+    let Some(round) = round_of(feeds) else {
+        return Some(ROUND_TOO_LONG);
+    };
+    let load: u64 = feeds.iter().map(|f| f.work * (round / f.period)).sum();
+    (load > round).then_some(LOAD_TOO_HIGH)
+}
+
+/// Opening: 12, 8, 3, 2, 9, 10. (A refused opening's state is the default.)
+pub fn open(list: &[u32], start: Instant) -> Result<Desk, Refusal> {
+    if list.len() % 3 != 0 {
+        return Err(LIST_NOT_IN_THREES);
+    }
+    if list.len() / 3 > FEEDS_MOST {
+        return Err(TOO_MANY_FEEDS);
+    }
+    if start > LAST_INSTANT {
+        return Err(PAST_LAST_INSTANT);
+    }
+    let mut feeds: Vec<Feed> = list
+        .chunks(3)
+        .map(|three| Feed {
+            period: three[0].into(),
+            work: three[1].into(),
+            offset: three[2].into(),
+            owes: 0,
+        })
+        .collect();
+    if let Some(refusal) = feeds_refusal(&feeds) {
+        return Err(refusal);
+    }
+    // Pieces from before the opening never were; one released now is ready.
+    for feed in &mut feeds {
+        if feed.releases_at(start) {
+            feed.owes = feed.work;
+        }
+    }
+    Ok(Desk {
+        clock: start,
+        feeds,
+        jobs: Vec::new(),
+    })
+}
+
+impl Desk {
+    /// "A state in order", but for unused places: this model has none, so the
+    /// caller that reads a state out of fixed tables looks at those.
+    pub fn in_order(&self) -> bool {
+        self.clock <= LAST_INSTANT && self.feeds_in_order() && self.jobs_in_order()
+    }
+
+    fn feeds_in_order(&self) -> bool {
+        self.feeds.len() <= FEEDS_MOST
+            && feeds_refusal(&self.feeds).is_none()
+            && self
+                .feeds
+                .iter()
+                .all(|feed| feed.owes <= feed.work && (feed.owes == 0 || self.clock >= feed.offset))
+    }
+
+    fn jobs_in_order(&self) -> bool {
+        let numbered_once = |job: &Job| {
+            self.jobs
+                .iter()
+                .filter(|other| other.number == job.number)
+                .count()
+                == 1
+        };
+        self.jobs.len() <= JOBS_MOST
+            && self.jobs.iter().all(|job| {
+                job.number != 0
+                    && numbered_once(job)
+                    && within(job.owed, 1, JOB_LENGTH_MOST)
+                    && job.deadline > self.clock
+                    && job.deadline - self.clock <= JOB_LENGTH_MOST
+                    && job.deadline <= LAST_INSTANT
+            })
+    }
+
+    fn live(&self, number: u32) -> Option<usize> {
+        self.jobs.iter().position(|job| job.number == number)
+    }
+
+    /// Asking: 13, 1, 2, 3, 4, 5, 6.
+    pub fn ask(&self, number: u32, work: u32, lead: u32) -> Result<Desk, Refusal> {
+        let (work, lead) = (Length::from(work), Length::from(lead));
+        if !self.in_order() {
+            return Err(NOT_IN_ORDER);
+        }
+        if number == 0 {
+            return Err(NUMBER_ZERO);
+        }
+        if !within(work, 1, JOB_LENGTH_MOST) || !within(lead, 1, JOB_LENGTH_MOST) {
+            return Err(OUTSIDE_LIMITS);
+        }
+        if self.clock + lead > LAST_INSTANT {
+            return Err(PAST_LAST_INSTANT);
+        }
+        if self.live(number).is_some() {
+            return Err(NUMBER_LIVE);
+        }
+        if self.jobs.len() == JOBS_MOST {
+            return Err(TABLE_FULL);
+        }
+        let mut taken = self.clone();
+        taken.jobs.push(Job {
+            number,
+            owed: work,
+            deadline: self.clock + lead,
+        });
+        if ahead::never_late(&taken) {
+            Ok(taken)
+        } else {
+            Err(DOES_NOT_FIT)
+        }
+    }
+
+    /// Who would get the tick at the clock's instant: the ready work with the
+    /// earliest deadline; with equal ones a job before a feed, a lower job
+    /// number before a higher, a lower position before a higher.
+    pub fn next_runner(&self) -> Runner {
+        let jobs = self.jobs.iter().map(|job| (job.deadline, 0, job.number));
+        let feeds = (1u32..)
+            .zip(&self.feeds)
+            .filter(|(_, feed)| feed.owes > 0)
+            .map(|(position, feed)| (feed.next_release(self.clock), 1, position));
+        match jobs.chain(feeds).min() {
+            None => Runner::Idle,
+            Some((_, 0, number)) => Runner::Job(number),
+            Some((_, _, position)) => Runner::Feed(position),
+        }
+    }
+
+    /// One tick by the step rule, with nothing checked.
+    pub fn tick(&mut self) -> Ran {
+        let runner = self.next_runner();
+        let owes = match runner {
+            Runner::Idle => 0,
+            Runner::Job(number) => self.serve_job(number),
+            Runner::Feed(position) => {
+                let feed = &mut self.feeds[position as usize - 1];
+                feed.owes -= 1;
+                feed.owes
+            }
+        };
+        self.clock += 1;
+        for feed in &mut self.feeds {
+            if feed.releases_at(self.clock) {
+                // A late piece gives way to the next.
+                feed.owes = feed.work;
+            }
+        }
+        Ran { runner, owes }
+    }
+
+    fn serve_job(&mut self, number: u32) -> Length {
+        let place = self.live(number).expect("the runner is live");
+        self.jobs[place].owed -= 1;
+        let owes = self.jobs[place].owed;
+        if owes == 0 {
+            self.jobs.remove(place);
+        }
+        owes
+    }
+
+    /// Stepping: 13, 3.
+    pub fn step(&self) -> Result<(Desk, Ran), Refusal> {
+        if !self.in_order() {
+            return Err(NOT_IN_ORDER);
+        }
+        if self.clock == LAST_INSTANT {
+            return Err(PAST_LAST_INSTANT);
+        }
+        let mut next = self.clone();
+        let ran = next.tick();
+        Ok((next, ran))
+    }
+
+    /// Ending: 13, 7.
+    pub fn end(&self, number: u32) -> Result<Desk, Refusal> {
+        if !self.in_order() {
+            return Err(NOT_IN_ORDER);
+        }
+        let place = self.live(number).ok_or(NO_SUCH)?;
+        let mut next = self.clone();
+        next.jobs.remove(place);
+        Ok(next)
+    }
+
+    /// Resting: 13, 7. (A piece that hasn't come owes nothing.)
+    pub fn rest(&self, position: u32) -> Result<Desk, Refusal> {
+        if !self.in_order() {
+            return Err(NOT_IN_ORDER);
+        }
+        let place = (position as usize).checked_sub(1).ok_or(NO_SUCH)?;
+        let mut next = self.clone();
+        match next.feeds.get_mut(place) {
+            Some(feed) if feed.owes > 0 => feed.owes = 0,
+            _ => return Err(NO_SUCH),
+        }
+        Ok(next)
+    }
+
+    /// Listing: 13, 11. Three numbers a job into the front of the buffer.
+    pub fn list(&self, buffer: &mut [u64]) -> Result<u32, Refusal> {
+        if !self.in_order() {
+            return Err(NOT_IN_ORDER);
+        }
+        if buffer.len() < 3 * self.jobs.len() {
+            return Err(BUFFER_TOO_SHORT);
+        }
+        let mut jobs = self.jobs.clone();
+        jobs.sort_by_key(|job| (job.deadline, job.number));
+        for (three, job) in buffer.chunks_mut(3).zip(&jobs) {
+            three.copy_from_slice(&[job.number.into(), job.owed, job.deadline]);
+        }
+        Ok(jobs.len() as u32)
+    }
+
+    /// The place of the runner's label. It gives no numbers: a state not in
+    /// order, and the clock's last instant, count as idle.
+    pub fn label(&self, job_labels: &[u8], feed_labels: &[u8]) -> Place {
+        if !self.in_order() || self.clock == LAST_INSTANT {
+            return Place::Empty;
+        }
+        match self.next_runner() {
+            Runner::Idle => Place::Empty,
+            Runner::Job(number) => job_labels
+                .chunks_exact(12)
+                .position(|record| record[..4] == number.to_be_bytes())
+                .map_or(Place::Empty, |record| Place::InJobLabels(12 * record + 4)),
+            Runner::Feed(position) => {
+                let from = 8 * (position as usize - 1);
+                if from + 8 <= feed_labels.len() {
+                    Place::InFeedLabels(from)
+                } else {
+                    Place::Empty
+                }
+            }
+        }
+    }
+}

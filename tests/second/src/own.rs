@@ -1,0 +1,178 @@
+//! The model behind the C boundary's shapes: what every call should answer.
+
+use crate::boundary::{Answer, Desk, Feed, Job, Label, Library, Listed, Stepped};
+use crate::model::{self, Place, Refusal, Runner, NOT_IN_ORDER};
+
+/// The state that these fixed tables hold; nothing if a count is above its
+/// limit or an unused place isn't all zero, which is not in order.
+pub fn read(desk: &Desk) -> Option<model::Desk> {
+    let (feeds, free_feeds) = desk.feeds.feeds.split_at_checked(desk.feeds.count)?;
+    let (jobs, free_jobs) = desk.table.jobs.split_at_checked(desk.table.count)?;
+    let unused = free_feeds.iter().all(|feed| *feed == Feed::default())
+        && free_jobs.iter().all(|job| *job == Job::default());
+    unused.then(|| model::Desk {
+        clock: desk.clock,
+        feeds: feeds.iter().map(model_feed).collect(),
+        jobs: jobs.iter().map(model_job).collect(),
+    })
+}
+
+fn model_feed(feed: &Feed) -> model::Feed {
+    let Feed {
+        period,
+        work,
+        offset,
+        owes,
+    } = *feed;
+    model::Feed {
+        period,
+        work,
+        offset,
+        owes,
+    }
+}
+
+fn model_job(job: &Job) -> model::Job {
+    let Job {
+        number,
+        owed,
+        deadline,
+    } = *job;
+    model::Job {
+        number,
+        owed,
+        deadline,
+    }
+}
+
+/// The fixed tables that hold this state.
+pub fn write(state: &model::Desk) -> Desk {
+    let mut desk = Desk {
+        clock: state.clock,
+        ..Desk::default()
+    };
+    desk.feeds.count = state.feeds.len();
+    for (place, feed) in desk.feeds.feeds.iter_mut().zip(&state.feeds) {
+        let model::Feed {
+            period,
+            work,
+            offset,
+            owes,
+        } = *feed;
+        *place = Feed {
+            period,
+            work,
+            offset,
+            owes,
+        };
+    }
+    desk.table.count = state.jobs.len();
+    for (place, job) in desk.table.jobs.iter_mut().zip(&state.jobs) {
+        let model::Job {
+            number,
+            owed,
+            deadline,
+        } = *job;
+        *place = Job {
+            number,
+            owed,
+            deadline,
+        };
+    }
+    desk
+}
+
+fn state_of(desk: &Desk) -> Result<model::Desk, Refusal> {
+    read(desk).ok_or(NOT_IN_ORDER)
+}
+
+/// A refusal hands back the state as it was, every field of it.
+fn answer(before: Desk, after: Result<model::Desk, Refusal>) -> Answer {
+    match after {
+        Ok(state) => Answer {
+            desk: write(&state),
+            refusal: 0,
+        },
+        Err(refusal) => Answer {
+            desk: before,
+            refusal,
+        },
+    }
+}
+
+/// This program's own answers.
+pub struct Own;
+
+impl Library for Own {
+    fn open(&self, list: &[u32], start: u64) -> Answer {
+        answer(Desk::default(), model::open(list, start))
+    }
+
+    fn ask(&self, desk: Desk, number: u32, work: u32, lead: u32) -> Answer {
+        answer(
+            desk,
+            state_of(&desk).and_then(|state| state.ask(number, work, lead)),
+        )
+    }
+
+    fn step(&self, desk: Desk) -> Stepped {
+        match state_of(&desk).and_then(|state| state.step()) {
+            Ok((state, ran)) => {
+                let (kind, number) = match ran.runner {
+                    Runner::Idle => (0, 0),
+                    Runner::Job(number) => (1, number),
+                    Runner::Feed(position) => (2, position),
+                };
+                Stepped {
+                    desk: write(&state),
+                    refusal: 0,
+                    kind,
+                    number,
+                    owes: ran.owes,
+                }
+            }
+            Err(refusal) => Stepped {
+                desk,
+                refusal,
+                kind: 0,
+                number: 0,
+                owes: 0,
+            },
+        }
+    }
+
+    fn end(&self, desk: Desk, number: u32) -> Answer {
+        answer(desk, state_of(&desk).and_then(|state| state.end(number)))
+    }
+
+    fn rest(&self, desk: Desk, position: u32) -> Answer {
+        answer(desk, state_of(&desk).and_then(|state| state.rest(position)))
+    }
+
+    fn list(&self, desk: Desk, buffer: &mut [u64]) -> Listed {
+        match state_of(&desk).and_then(|state| state.list(buffer)) {
+            Ok(count) => Listed { refusal: 0, count },
+            Err(refusal) => Listed { refusal, count: 0 },
+        }
+    }
+
+    fn label(&self, desk: Desk, jobs: &[u8], feeds: &[u8]) -> Label {
+        match read(&desk).map_or(Place::Empty, |state| state.label(jobs, feeds)) {
+            Place::Empty => Label {
+                list: 1,
+                from: 0,
+                length: 0,
+            },
+            Place::InJobLabels(from) => Label {
+                list: 1,
+                from,
+                length: 8,
+            },
+            Place::InFeedLabels(from) => Label {
+                list: 2,
+                from,
+                length: 8,
+            },
+        }
+    }
+}

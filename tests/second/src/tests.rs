@@ -1,0 +1,756 @@
+//! Tests of this program itself: the document's examples, each refusal, each
+//! kind of bad line, the rehearsal ahead against two slower ways of knowing,
+//! and the comparing of calls against libraries with one fault planted.
+
+use crate::ahead;
+use crate::boundary::{Answer, Label, Library, Listed, Stepped};
+use crate::calls;
+use crate::invent::BENCH;
+use crate::model::*;
+use crate::own::{read, write, Own};
+use crate::random::Random;
+use crate::script::{rehearse, INPUT_MOST};
+
+fn said(input: &str) -> String {
+    let mut out = Vec::new();
+    rehearse(input.as_bytes(), &mut out).unwrap();
+    String::from_utf8(out).unwrap()
+}
+
+fn x() -> Desk {
+    open(&[4, 1, 0, 6, 2, 0], 0).unwrap()
+}
+
+// ---------------------------------------------------------------- the document
+
+#[test]
+fn the_documents_rehearsal() {
+    let input = "feed 4 1 0\nfeed 6 2 0\ngo 0\nask 1 3 6\nask 2 1 6\nrun 12\n";
+    let output = "go ok\nask 1 yes\nask 2 no 6\n0 feed 1\n1 job 1\n2 job 1\n3 job 1\n4 feed 2\n\
+                  5 feed 2\n6 feed 1\n7 feed 2\n8 feed 1\n9 feed 2\n10 idle\n11 idle\n";
+    assert_eq!(said(input), output);
+}
+
+#[test]
+fn bench_examples_on_x() {
+    let refusal = |work, lead| x().ask(1, work, lead).err();
+    assert_eq!(refusal(3, 6), None);
+    assert_eq!(refusal(4, 6), Some(6));
+    assert_eq!(refusal(4, 7), None);
+    assert_eq!(refusal(5, 12), None);
+    assert_eq!(refusal(6, 12), Some(6));
+    assert_eq!(refusal(6, 13), None);
+}
+
+#[test]
+fn bench_examples_of_full_feeds() {
+    let full = open(&[2, 1, 0, 4, 2, 0], 0).unwrap();
+    assert_eq!(full.ask(1, 1, 65_536).err(), Some(6));
+    let rested = full.rest(1).unwrap();
+    assert_eq!(rested.ask(1, 1, 1).err(), None);
+    assert_eq!(open(&[4, 4, 0], 0).unwrap().ask(1, 1, 1).err(), Some(6));
+}
+
+#[test]
+fn bench_example_of_two_jobs() {
+    let one = open(&[], 0).unwrap().ask(1, 3, 4).unwrap();
+    assert_eq!(one.ask(2, 2, 2).err(), Some(6));
+}
+
+#[test]
+fn bench_examples_of_openings() {
+    assert_eq!(open(&[4, 1, 0, 6], 0).err(), Some(12));
+    assert_eq!(open(&[40_319, 1, 0, 2, 1, 0], 0).err(), Some(9));
+    assert_eq!(open(&[2, 1, 0, 3, 2, 0], 0).err(), Some(10));
+}
+
+#[test]
+fn bench_example_at_the_end_of_time() {
+    let desk = open(&[], LAST_INSTANT - 65_536).unwrap();
+    assert_eq!(desk.ask(1, 1, 65_536).err(), None);
+    let (later, _) = desk.step().unwrap();
+    assert_eq!(later.ask(1, 1, 65_536).err(), Some(3));
+}
+
+/// The same in the program's words: the last line that is not a tick.
+#[test]
+fn bench_examples_as_scripts() {
+    let answers = [
+        "ask 2 no 6",
+        "ask 1 no 6",
+        "ask 1 yes",
+        "ask 1 yes",
+        "ask 1 no 6",
+        "ask 1 yes",
+        "ask 1 no 6",
+        "ask 1 yes",
+        "ask 1 no 6",
+        "ask 2 no 6",
+        "go no 9",
+        "go no 10",
+        "ask 1 yes",
+        "ask 1 no 3",
+    ];
+    for (script, answer) in BENCH.iter().zip(answers) {
+        let output = said(script);
+        let mut lines = output
+            .lines()
+            .filter(|line| !line.starts_with(|c: char| c.is_ascii_digit()));
+        assert_eq!(lines.next_back(), Some(answer), "{script}");
+    }
+}
+
+// ---------------------------------------------------------------- refusals
+
+#[test]
+fn refusals_of_open_in_order() {
+    let seventeen = [1u32; 51];
+    assert_eq!(open(&[1; 52], LAST_INSTANT + 1).err(), Some(12));
+    assert_eq!(open(&seventeen, LAST_INSTANT + 1).err(), Some(8));
+    assert_eq!(open(&[0, 0, 0], LAST_INSTANT + 1).err(), Some(3));
+    assert_eq!(open(&[40_319, 1, 0, 2, 0, 0], 0).err(), Some(2));
+    for outside in [
+        [0, 1, 0],
+        [40_321, 1, 0],
+        [4, 0, 0],
+        [4, 40_321, 0],
+        [4, 1, 4],
+    ] {
+        assert_eq!(open(&outside, 0).err(), Some(2));
+    }
+    assert_eq!(open(&[40_319, 40_320, 0, 2, 2, 0], 0).err(), Some(9));
+    assert_eq!(open(&[4, 5, 0], LAST_INSTANT).err(), Some(10));
+    assert!(open(&[4, 4, 3], LAST_INSTANT).is_ok());
+    assert!(open(&[20, 1, 0].repeat(16), 0).is_ok());
+}
+
+#[test]
+fn refusals_of_ask_in_order() {
+    let mut disordered = x();
+    disordered.clock = LAST_INSTANT + 1;
+    assert_eq!(disordered.ask(0, 0, 0).err(), Some(13));
+    let last = open(&[], LAST_INSTANT).unwrap();
+    assert_eq!(last.ask(0, 0, 0).err(), Some(1));
+    for (work, lead) in [(0, 1), (1, 0), (65_537, 1), (1, 65_537)] {
+        assert_eq!(last.ask(1, work, lead).err(), Some(2));
+    }
+    assert_eq!(last.ask(1, 1, 1).err(), Some(3));
+    let one = open(&[], LAST_INSTANT - 10)
+        .unwrap()
+        .ask(1, 10, 10)
+        .unwrap();
+    assert_eq!(one.ask(1, 1, 11).err(), Some(3));
+    assert_eq!(one.ask(1, 9, 1).err(), Some(4));
+    assert_eq!(one.ask(2, 1, 10).err(), Some(6));
+    let mut full = open(&[], 0).unwrap();
+    for number in 1..=64 {
+        full = full.ask(number, 1, 100).unwrap();
+    }
+    assert_eq!(full.ask(64, 1, 100).err(), Some(4));
+    assert_eq!(full.ask(65, 65_536, 1).err(), Some(5));
+}
+
+#[test]
+fn refusals_elsewhere() {
+    let last = open(&[4, 1, 0], LAST_INSTANT).unwrap();
+    assert_eq!(last.step().err(), Some(3));
+    assert_eq!(last.end(0).err(), Some(7));
+    assert_eq!(last.rest(0).err(), Some(7));
+    assert_eq!(last.rest(2).err(), Some(7));
+    let rested = last.rest(1).unwrap();
+    assert_eq!(rested.rest(1).err(), Some(7));
+    let not_come = open(&[4, 1, 3], 0).unwrap();
+    assert_eq!(not_come.rest(1).err(), Some(7));
+    let one = x().ask(9, 1, 50).unwrap();
+    assert_eq!(one.list(&mut [0; 2]).err(), Some(11));
+    let mut late = one.clone();
+    late.jobs[0].deadline = late.clock;
+    assert_eq!(late.step().err(), Some(13));
+    assert_eq!(late.end(9).err(), Some(13));
+    assert_eq!(late.rest(1).err(), Some(13));
+    assert_eq!(late.list(&mut []).err(), Some(13));
+}
+
+// ---------------------------------------------------------------- steps and states
+
+#[test]
+fn equal_deadlines_go_by_rank() {
+    let desk = open(&[6, 1, 0, 6, 1, 0], 0)
+        .unwrap()
+        .ask(7, 1, 6)
+        .unwrap()
+        .ask(3, 1, 6)
+        .unwrap();
+    let mut names = Vec::new();
+    let mut now = desk;
+    for _ in 0..5 {
+        let (next, ran) = now.step().unwrap();
+        names.push(ran.runner);
+        now = next;
+    }
+    let expected = [
+        Runner::Job(3),
+        Runner::Job(7),
+        Runner::Feed(1),
+        Runner::Feed(2),
+        Runner::Idle,
+    ];
+    assert_eq!(names, expected);
+}
+
+#[test]
+fn an_opening_in_mid_period_waits_for_the_next_piece() {
+    let desk = open(&[10, 10, 7], 8).unwrap();
+    assert_eq!(desk.feeds[0].owes, 0);
+    assert!(desk.ask(1, 9, 9).is_ok());
+    assert_eq!(desk.ask(1, 10, 10).err(), Some(6));
+}
+
+#[test]
+fn a_step_tells_what_is_owed_before_a_release() {
+    let (next, ran) = open(&[1, 1, 0], 0).unwrap().step().unwrap();
+    assert_eq!(
+        ran,
+        Ran {
+            runner: Runner::Feed(1),
+            owes: 0
+        }
+    );
+    assert_eq!(next.feeds[0].owes, 1);
+}
+
+#[test]
+fn a_late_job_stays_and_a_late_piece_gives_way() {
+    let job = |number, deadline| Job {
+        number,
+        owed: 2,
+        deadline,
+    };
+    let feeds = vec![Feed {
+        period: 2,
+        work: 2,
+        offset: 0,
+        owes: 2,
+    }];
+    let desk = Desk {
+        clock: 0,
+        feeds,
+        jobs: vec![job(5, 1), job(4, 1)],
+    };
+    assert!(desk.in_order());
+    assert_eq!(desk.ask(1, 1, 65_536).err(), Some(6));
+    let (late, ran) = desk.step().unwrap();
+    assert_eq!(
+        ran,
+        Ran {
+            runner: Runner::Job(4),
+            owes: 1
+        }
+    );
+    assert_eq!(late.jobs.len(), 2);
+    assert!(!late.in_order());
+    let feeds = vec![Feed {
+        period: 2,
+        work: 2,
+        offset: 0,
+        owes: 2,
+    }];
+    let desk = Desk {
+        clock: 1,
+        feeds,
+        jobs: vec![],
+    };
+    let (next, ran) = desk.step().unwrap();
+    assert_eq!(ran.owes, 1);
+    assert_eq!(next.feeds[0].owes, 2);
+}
+
+#[test]
+fn numbers_and_places_are_used_again_in_the_order_of_yes() {
+    let mut desk = open(&[], 0).unwrap();
+    for number in [5, 4, 3] {
+        desk = desk.ask(number, 2, 20).unwrap();
+    }
+    desk = desk.end(4).unwrap().ask(4, 1, 1).unwrap();
+    let numbers: Vec<u32> = desk.jobs.iter().map(|job| job.number).collect();
+    assert_eq!(numbers, [5, 3, 4]);
+}
+
+#[test]
+fn listing_and_labels() {
+    let desk = x()
+        .ask(9, 1, 50)
+        .unwrap()
+        .ask(2, 1, 50)
+        .unwrap()
+        .ask(600, 1, 1)
+        .err();
+    assert_eq!(desk, None);
+    let desk = x()
+        .ask(9, 1, 50)
+        .unwrap()
+        .ask(2, 1, 50)
+        .unwrap()
+        .ask(258, 1, 1)
+        .unwrap();
+    let mut buffer = [77; 11];
+    assert_eq!(desk.list(&mut buffer), Ok(3));
+    assert_eq!(buffer, [258, 1, 1, 2, 1, 50, 9, 1, 50, 77, 77]);
+    let records = [
+        0, 0, 2, 1, 1, 1, 1, 1, 1, 1, 1, 1, 0, 0, 1, 2, 2, 2, 2, 2, 2, 2, 2, 2,
+    ];
+    assert_eq!(desk.label(&records, &[]), Place::InJobLabels(16));
+    assert_eq!(desk.label(&records[..23], &[]), Place::Empty);
+    assert_eq!(x().label(&[], &[1; 8]), Place::InFeedLabels(0));
+    assert_eq!(x().label(&[], &[1; 7]), Place::Empty);
+    assert_eq!(
+        open(&[4, 1, 0], LAST_INSTANT)
+            .unwrap()
+            .label(&records, &[1; 8]),
+        Place::Empty
+    );
+    assert_eq!(
+        x().rest(1).unwrap().label(&[], &[1; 16]),
+        Place::InFeedLabels(8)
+    );
+}
+
+/// A state in order, damaged in each way that the document names.
+#[test]
+fn damaged_states_are_not_in_order() {
+    let good = open(&[4, 1, 0, 6, 2, 5], 8)
+        .unwrap()
+        .ask(1, 2, 20)
+        .unwrap()
+        .ask(2, 2, 30)
+        .unwrap();
+    assert!(good.in_order());
+    let damages: [fn(&mut Desk); 16] = [
+        |desk| desk.clock = LAST_INSTANT + 1,
+        |desk| {
+            desk.feeds.extend(vec![
+                Feed {
+                    period: 40_320,
+                    work: 1,
+                    offset: 0,
+                    owes: 0
+                };
+                15
+            ])
+        },
+        |desk| desk.feeds[0].period = 0,
+        |desk| desk.feeds[0].period = 40_319,
+        |desk| desk.feeds[0].work = 3,
+        |desk| desk.feeds[0].offset = 4,
+        |desk| desk.feeds[0].owes = 2,
+        |desk| desk.jobs[0].number = 0,
+        |desk| desk.jobs[0].number = 2,
+        |desk| desk.jobs[0].owed = 0,
+        |desk| desk.jobs[0].owed = 65_537,
+        |desk| desk.jobs[0].deadline = 8,
+        |desk| desk.jobs[0].deadline = 8 + 65_537,
+        |desk| desk.jobs[0].deadline = u64::MAX,
+        |desk| {
+            *desk = Desk {
+                clock: 4,
+                feeds: desk.feeds.clone(),
+                jobs: vec![],
+            }
+        },
+        |desk| desk.jobs = vec![desk.jobs[0]; 65],
+    ];
+    for (which, damage) in damages.iter().enumerate() {
+        let mut desk = good.clone();
+        desk.feeds[1].owes = 1;
+        assert!(desk.in_order());
+        damage(&mut desk);
+        assert!(!desk.in_order(), "damage {which}");
+    }
+}
+
+#[test]
+fn unused_places_must_be_zero() {
+    let good = write(&x().ask(1, 1, 9).unwrap());
+    assert!(read(&good).is_some());
+    for place in 1..64 {
+        let mut desk = good;
+        desk.table.jobs[place].deadline = 1;
+        assert!(read(&desk).is_none());
+    }
+    for count in [17, usize::MAX] {
+        let mut desk = good;
+        desk.feeds.count = count;
+        assert!(read(&desk).is_none());
+    }
+}
+
+// ---------------------------------------------------------------- the program
+
+#[test]
+fn bad_lines() {
+    let bad = [
+        "",
+        " ",
+        "go",
+        "go ",
+        " go 0",
+        "go  0",
+        "go 0 ",
+        "go 00",
+        "go 01",
+        "go -1",
+        "go +1",
+        "go 10000000000000",
+        "go 0 0",
+        "Go 0",
+        "feed 4 1",
+        "feed 4 1 0 0",
+        "feed 04 1 0",
+        "feed 4294967296 1 0",
+        "feed 4 4294967296 0",
+        "feed 4 1 4294967296",
+        "word",
+        "go 0\r",
+        "go\t0",
+        "ask 1 1 1",
+        "end 1",
+        "rest 1",
+        "run 1",
+        "go 1a",
+    ];
+    for line in bad {
+        assert_eq!(
+            said(&format!("feed 4 1 0\n{line}\ngo 0\n")),
+            "line 2 bad\n",
+            "{line:?}"
+        );
+    }
+    let bad = [
+        "",
+        "ask 1 1",
+        "ask 1 1 1 1",
+        "ask 4294967296 1 1",
+        "ask 1 4294967296 1",
+        "ask 1 1 4294967296",
+        "ask 01 1 1",
+        "end",
+        "end 1 1",
+        "end 4294967296",
+        "rest",
+        "rest 4294967296",
+        "run",
+        "run 4097",
+        "run 04",
+        "go 0",
+        "feed 4 1 0",
+        "run 1 ",
+        "list",
+    ];
+    for line in bad {
+        assert_eq!(
+            said(&format!("go 0\n{line}\nrun 1\n")),
+            "go ok\nline 2 bad\n",
+            "{line:?}"
+        );
+    }
+}
+
+#[test]
+fn good_lines_at_their_limits() {
+    assert_eq!(said(""), "");
+    assert_eq!(said("feed 4294967295 4294967295 4294967295\n"), "");
+    assert_eq!(said("feed 4294967295 1 0\ngo 0\n\n"), "go no 2\n");
+    assert_eq!(
+        said("go 1099511627776\nrun 0\nrun 2\nend 0\n"),
+        "go ok\nrun no 3\nend no 7\n"
+    );
+    assert_eq!(said("go 1099511627777\n"), "go no 3\n");
+    assert_eq!(said("go 9999999999999\nbad"), "go no 3\n");
+    assert_eq!(
+        said("go 1099511627775\nrun 4096\n"),
+        "go ok\n1099511627775 idle\nrun no 3\n"
+    );
+    let high = "go 0\nask 4294967295 1 1\nask 0 1 1\nend 4294967295\nrest 4294967295\n";
+    assert_eq!(
+        said(high),
+        "go ok\nask 4294967295 yes\nask 0 no 1\nend ok\nrest no 7\n"
+    );
+    assert_eq!(said("go 0\nrun 4096\n").lines().count(), 4_097);
+}
+
+#[test]
+fn the_last_newline_and_the_count_of_feeds() {
+    assert_eq!(said("go 0"), "line 1 bad\n");
+    assert_eq!(said("go 0\nrun 1"), "go ok\nline 2 bad\n");
+    let feeds = |count| "feed 20 1 0\n".repeat(count) + "go 0\n";
+    assert_eq!(said(&feeds(16)), "go ok\n");
+    assert_eq!(said(&feeds(17)), "go no 8\n");
+    assert_eq!(said(&feeds(18)), "line 18 bad\n");
+}
+
+#[test]
+fn too_long() {
+    let mut input = String::from("go 0\n");
+    while input.len() + 7 <= INPUT_MOST {
+        input += "rest 0\n";
+    }
+    let exact = input.clone() + &"7".repeat(INPUT_MOST - input.len());
+    assert_eq!(exact.len(), INPUT_MOST);
+    assert!(said(&exact).starts_with("go ok\nrest no 7\n"));
+    assert_eq!(said(&(exact + "\n")), "too long\n");
+}
+
+#[test]
+fn reuse_ends_and_rests_in_a_script() {
+    let input = "feed 4 2 1\ngo 2\nask 1 2 3\nask 1 1 9\nrun 2\nask 1 2 3\nrest 1\nrun 1\nrest 1\n\
+                 rest 1\nend 1\nend 1\nrun 2\n";
+    let output = "go ok\nask 1 yes\nask 1 no 4\n2 job 1\n3 job 1\nask 1 yes\nrest no 7\n4 job 1\n\
+                  rest ok\nrest no 7\nend ok\nend no 7\n5 idle\n6 idle\n";
+    assert_eq!(said(input), output);
+}
+
+// ---------------------------------------------------------------- the rehearsal ahead
+
+/// The same question, tick after tick by the step rule itself.
+fn never_late_slowly(desk: &Desk) -> bool {
+    let stop = ahead::far_enough(desk);
+    let mut now = desk.clone();
+    while now.clock < stop {
+        let owing: Vec<bool> = now.feeds.iter().map(|feed| feed.owes > 0).collect();
+        let runner = now.next_runner();
+        let ran = now.tick();
+        for (place, feed) in now.feeds.iter().enumerate() {
+            let served = runner == Runner::Feed(place as u32 + 1) && ran.owes == 0;
+            if feed.releases_at(now.clock) && owing[place] && !served {
+                return false;
+            }
+        }
+        if now.jobs.iter().any(|job| job.deadline <= now.clock) {
+            return false;
+        }
+    }
+    true
+}
+
+/// The document's own words: for every F a choice of at most one piece of work
+/// for each tick. Sought by giving units of work to ticks along changing paths.
+fn choice_exists(desk: &Desk, last: Instant) -> bool {
+    let ticks = (last - desk.clock) as usize;
+    let mut units: Vec<(usize, usize)> = Vec::new();
+    let mut add = |owed: u64, from: Instant, to: Instant| {
+        if to <= last {
+            let window = ((from - desk.clock) as usize, (to - desk.clock) as usize);
+            units.extend(vec![window; owed as usize]);
+        }
+    };
+    for job in &desk.jobs {
+        add(job.owed, desk.clock, job.deadline);
+    }
+    for feed in &desk.feeds {
+        let mut release = feed.next_release(desk.clock);
+        add(feed.owes, desk.clock, release);
+        while release < last {
+            add(feed.work, release, release + feed.period);
+            release += feed.period;
+        }
+    }
+    let mut given: Vec<Option<usize>> = vec![None; ticks];
+    (0..units.len()).all(|unit| give(unit, &units, &mut given, &mut vec![false; ticks]))
+}
+
+fn give(
+    unit: usize,
+    units: &[(usize, usize)],
+    given: &mut [Option<usize>],
+    seen: &mut [bool],
+) -> bool {
+    for tick in units[unit].0..units[unit].1 {
+        if seen[tick] {
+            continue;
+        }
+        seen[tick] = true;
+        if given[tick].is_none_or(|other| give(other, units, given, seen)) {
+            given[tick] = Some(unit);
+            return true;
+        }
+    }
+    false
+}
+
+/// Small states in order, reachable or not, with loads up to full.
+fn small_state(random: &mut Random, periods: &[u64], lead: u64) -> Desk {
+    loop {
+        let feeds = (0..random.below(4)).map(|_| {
+            let period = random.pick(periods);
+            let work = random.between(1, period);
+            Feed {
+                period,
+                work,
+                offset: random.below(period),
+                owes: random.below(work + 1),
+            }
+        });
+        let feeds = feeds.collect();
+        let clock = random.pick(&[0, 1, 3, 50, 51, LAST_INSTANT - 2 * lead]) + random.below(lead);
+        let jobs = (1..=random.below(4) as u32).map(|number| {
+            let lead = random.between(1, lead);
+            let owed = random.between(1, lead / 2 + 1);
+            Job {
+                number,
+                owed,
+                deadline: clock + lead,
+            }
+        });
+        let jobs = jobs.collect();
+        let desk = Desk { clock, feeds, jobs };
+        if desk.in_order() {
+            return desk;
+        }
+    }
+}
+
+#[test]
+fn ahead_agrees_with_tick_after_tick() {
+    let mut random = Random::of(11, 0);
+    let mut late = 0;
+    for _ in 0..4_000 {
+        let desk = small_state(&mut random, &[1, 2, 3, 4, 5, 6, 8, 12, 20], 40);
+        let never = ahead::never_late(&desk);
+        assert_eq!(never, never_late_slowly(&desk), "{desk:?}");
+        late += u32::from(!never);
+    }
+    assert!(
+        (400..3_600).contains(&late),
+        "both answers often: {late} late"
+    );
+}
+
+#[test]
+fn ahead_agrees_with_the_definition() {
+    let mut random = Random::of(12, 0);
+    let mut late = 0;
+    for _ in 0..400 {
+        let desk = small_state(&mut random, &[1, 2, 3, 4, 6], 10);
+        let never = ahead::never_late(&desk);
+        // A choice for a later F serves all earlier ones too.
+        assert_eq!(
+            never,
+            choice_exists(&desk, ahead::far_enough(&desk)),
+            "{desk:?}"
+        );
+        late += u32::from(!never);
+    }
+    assert!((40..360).contains(&late), "both answers often: {late} late");
+}
+
+/// Lateness in the very last stretch that the comment in `ahead` allows for.
+#[test]
+fn lateness_can_come_long_after_the_last_job() {
+    let desk = open(&[2, 1, 0, 40_320, 20_160, 0], 0).unwrap();
+    assert_eq!(desk.ask(1, 1, 1).err(), Some(6));
+    let desk = open(&[2, 1, 0, 40_320, 20_159, 0], 0).unwrap();
+    assert_eq!(desk.ask(1, 1, 2).err(), None);
+    assert_eq!(desk.ask(1, 2, 4).err(), Some(6));
+}
+
+// ---------------------------------------------------------------- comparing calls
+
+#[test]
+fn a_right_library_passes() {
+    let tally = calls::compare(&Own, 5, 30_000).unwrap();
+    let refusals = [
+        ("open", vec![0, 2, 3, 8, 9, 10, 12]),
+        ("ask", vec![0, 1, 2, 3, 4, 5, 6, 13]),
+        ("step", vec![0, 3, 13]),
+        ("end", vec![0, 7, 13]),
+        ("rest", vec![0, 7, 13]),
+        ("list", vec![0, 11, 13]),
+        ("label", vec![0, 101, 102]),
+    ];
+    for (call, numbers) in refusals {
+        for number in numbers {
+            assert!(
+                tally.contains_key(&(call, number)),
+                "{call} {number} never came"
+            );
+        }
+    }
+}
+
+/// A library with one fault, by number.
+struct Faulty(u32);
+
+type State = crate::boundary::Desk;
+
+impl Library for Faulty {
+    fn open(&self, list: &[u32], start: u64) -> Answer {
+        let mut answer = Own.open(list, start);
+        if self.0 == 1 && answer.refusal != 0 {
+            answer.desk.clock = start;
+        }
+        answer
+    }
+    fn ask(&self, desk: State, number: u32, work: u32, lead: u32) -> Answer {
+        let mut answer = Own.ask(desk, number, work, lead);
+        match self.0 {
+            2 if answer.refusal == 6 => answer.refusal = 5,
+            3 if answer.refusal == 13 => answer.desk = State::default(),
+            _ => (),
+        }
+        answer
+    }
+    fn step(&self, desk: State) -> Stepped {
+        let mut stepped = Own.step(desk);
+        let late =
+            |job: &crate::boundary::Job| job.number != 0 && job.deadline <= stepped.desk.clock;
+        match self.0 {
+            4 if stepped.refusal == 0 && stepped.desk.table.jobs.iter().any(late) => {
+                stepped.refusal = 13
+            }
+            5 if stepped.kind == 2 && stepped.owes == 0 => stepped.owes = 1,
+            _ => (),
+        }
+        stepped
+    }
+    fn end(&self, desk: State, number: u32) -> Answer {
+        let mut answer = Own.end(desk, number);
+        if self.0 == 6 && answer.refusal == 0 && answer.desk.table.count > 1 {
+            answer.desk.table.jobs[..answer.desk.table.count].sort_by_key(|job| job.number);
+        }
+        answer
+    }
+    fn rest(&self, desk: State, position: u32) -> Answer {
+        let mut answer = Own.rest(desk, position);
+        if self.0 == 7 && position == 17 && answer.refusal == 7 {
+            answer.refusal = 2;
+        }
+        answer
+    }
+    fn list(&self, desk: State, buffer: &mut [u64]) -> Listed {
+        let listed = Own.list(desk, buffer);
+        if self.0 == 8 && listed.refusal == 0 && buffer.len() > 3 * listed.count as usize {
+            buffer[3 * listed.count as usize] = 0;
+        }
+        listed
+    }
+    fn label(&self, desk: State, jobs: &[u8], feeds: &[u8]) -> Label {
+        let mut label = Own.label(desk, jobs, feeds);
+        match self.0 {
+            9 if label.length == 0 && desk.clock == LAST_INSTANT => label.list = 2,
+            10 if label.list == 1 && label.length == 8 => label.from -= 4,
+            _ => (),
+        }
+        label
+    }
+}
+
+#[test]
+fn each_planted_fault_is_found() {
+    assert!(calls::compare(&Faulty(0), 6, 2_000).is_ok());
+    for fault in 1..=10 {
+        assert!(
+            calls::compare(&Faulty(fault), 6, 20_000).is_err(),
+            "fault {fault} went by"
+        );
+    }
+}
