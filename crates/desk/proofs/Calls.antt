@@ -56,7 +56,7 @@ module _ (d : Desk) (s : Sized d) (h : inOrder d ≡ true) where
       }
 
   -- the feeds and the jobs, written back as they were
-  feeds-back : d .feeds ≡ deskOf (book d) .feeds
+  pub feeds-back : d .feeds ≡ deskOf (book d) .feeds
   feeds-back = feeds-are-kept d s h ∙ ap feedsOf (sym (feeds-of-book 1 (liveFeeds (d .feeds))))
 
   jobs-back : d .table ≡ deskOf (book d) .table

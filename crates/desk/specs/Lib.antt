@@ -2,3 +2,4 @@ pub mod State
 pub mod Answers
 pub mod Opening
 pub mod Calls
+pub mod Asking

@@ -3,21 +3,28 @@
 use feeds::Feeds;
 use feeds::Listed;
 use jobs::Found;
+use jobs::Job;
 use jobs::Table;
+use listing::Runner;
 use serving::Named;
 use serving::Who;
 use ticks::Instant;
 use ticks::Length;
 ghost use mathlib.Core.Path.{_≡_};
 ghost use mathlib.Core.Bool.{true};
-ghost use mathlib.Core.List.{[]};
+ghost use mathlib.Core.List.{[], _∷_};
+ghost use Prim.Native.Nat.{_≤_, _<_, _^_};
 ghost use lib.ListN.{length};
+ghost use Rattle.ticks.specs.Ticks.{lastInstant};
 ghost use Rattle.feeds.specs.Lines.{shapeOf};
+ghost use Rattle.jobs.specs.Jobs.{mostJobs};
+ghost use Rattle.listing.specs.Labels.{labelOf, PartAt};
 ghost use Rattle.feeds.specs.declared.Listed.the-variants.{Fine};
 ghost use Rattle.desk.specs.State.{inOrder, empty};
-ghost use Rattle.desk.specs.Answers.{verdictOf, ranOf};
+ghost use Rattle.desk.specs.Answers.{firstOf, verdictOf, ranOf};
 ghost use Rattle.desk.specs.Opening.{openedOf};
-ghost use Rattle.desk.specs.Calls.{stepOf, endOf, restOf};
+ghost use Rattle.desk.specs.Calls.{stepOf, endOf, restOf, countedOf, listedOf, runnerOf};
+ghost use Rattle.desk.specs.Asking.{askLines, fullLine, Admissible, Judged, Asked};
 
 // The state of a box: what the clock reads, the feeds with their current pieces, and the live jobs.
 #[repr(C)]
@@ -67,6 +74,12 @@ pub enum Ran {
 pub struct Stepped {
     pub desk: Desk,
     pub ran: Ran,
+}
+
+// How many jobs the list call wrote, or why it wrote none.
+pub enum Counted {
+    Jobs(usize),
+    No(Refusal),
 }
 
 // What the opening says of a lent list.
@@ -251,5 +264,120 @@ impl Desk {
             desk,
             verdict: Verdict::Yes,
         }
+    }
+
+    // Lines 1 to 5 for a request on a state in order.
+    fn ask_stops(self, number: u32, work: Length, lead: Length) -> Verdict
+        requires { ⌜ (self .clock .0 ≤ lastInstant) × (self .table .count ≤ mostJobs) × (lead .0 < 2 ^ 32) ⌝ }
+        ensures { λ r. ⌜ r ≡ firstOf (askLines self number work lead) ⌝ }
+    {
+        if number < 1 {
+            return Verdict::No(Refusal::NumberZero);
+        }
+        if !work.is_job() {
+            return Verdict::No(Refusal::Outside);
+        }
+        if !lead.is_job() {
+            return Verdict::No(Refusal::Outside);
+        }
+        let deadline = self.clock.plus(lead);
+        if !deadline.within() {
+            return Verdict::No(Refusal::PastLast);
+        }
+        match self.table.find(number) {
+            Found::At(_) => Verdict::No(Refusal::NumberLive),
+            Found::Nothing => self.full(),
+        }
+    }
+
+    // Line 5.
+    fn full(self) -> Verdict
+        ensures { λ r. ⌜ r ≡ firstOf (fullLine self ∷ []) ⌝ }
+    {
+        if self.table.count < Job::MOST {
+            return Verdict::Yes;
+        }
+        Verdict::No(Refusal::Full)
+    }
+
+    // Line 6: the request is taken exactly if it fits.
+    fn admit(self, job: Job) -> Answer
+        requires { ⌜ Admissible self job ⌝ }
+        ensures { λ r. ⌜ Judged self job r ⌝ }
+    {
+        let table = self.table.taken(job);
+        if room::fits(self.clock, self.feeds, table) {
+            let mut desk = self;
+            desk.table = table;
+            return Answer {
+                desk,
+                verdict: Verdict::Yes,
+            };
+        }
+        Answer {
+            desk: self,
+            verdict: Verdict::No(Refusal::DoesNotFit),
+        }
+    }
+
+    // Asking for a job.
+    pub fn ask(self, number: u32, work: u32, lead: u32) -> Answer
+        ensures { λ r. ⌜ Asked self number work lead r ⌝ }
+    {
+        if !self.in_order() {
+            return Answer {
+                desk: self,
+                verdict: Verdict::No(Refusal::NotInOrder),
+            };
+        }
+        let owed = Length::of(work);
+        let ahead = Length::of(lead);
+        match self.ask_stops(number, owed, ahead) {
+            Verdict::No(refusal) => Answer {
+                desk: self,
+                verdict: Verdict::No(refusal),
+            },
+            Verdict::Yes => self.admit(Job::of(number, owed, self.clock.plus(ahead))),
+        }
+    }
+
+    // The live jobs into the front of a lent buffer: three numbers a job, earliest deadline first.
+    pub fn list(self, buffer: &mut [u64]) -> Counted
+        ensures { λ r. ⌜ (r ≡ countedOf self (length (now (buffer .entry)))) × (now (buffer .exit) ≡ listedOf self (now (buffer .entry))) ⌝ }
+    {
+        if !self.in_order() {
+            return Counted::No(Refusal::NotInOrder);
+        }
+        if buffer.len() < 3 * self.table.count {
+            return Counted::No(Refusal::ShortBuffer);
+        }
+        Counted::Jobs(listing::list(self.table, buffer))
+    }
+
+    // Whom the next step would name; nobody at the clock's last instant and for a state not in order.
+    fn runner(self) -> Runner
+        ensures { λ r. ⌜ r ≡ runnerOf self ⌝ }
+    {
+        if !self.in_order() {
+            return Runner::Idle;
+        }
+        let last = Instant::last();
+        if !last.is_after(self.clock) {
+            return Runner::Idle;
+        }
+        let piece = serving::foremost(self.clock, self.feeds, self.table);
+        let who = piece.who;
+        match who {
+            Who::Job(number) => Runner::Job(number),
+            Who::Feed(position) => Runner::Feed(position),
+            Who::Idle => Runner::Idle,
+        }
+    }
+
+    // The label of the one that runs, where it stands in the list that holds it.
+    pub fn label<'a>(self, job_labels: &'a [u8], feed_labels: &'a [u8]) -> &'a [u8]
+        ensures { λ r. ⌜ PartAt (labelOf (runnerOf self) (now («job_labels» .entry)) (now («feed_labels» .entry))) («job_labels» .entry) («feed_labels» .entry) r ⌝ }
+    {
+        listing::label(self.runner(), job_labels, feed_labels)
     }
 }

@@ -1,0 +1,122 @@
+-- Laws of the walk over the due instants.
+use mathlib.Core.Path.{_≡_, sym, ap, _∙_}
+use mathlib.Core.Bool.{Bool, cond}
+use mathlib.Core.List.{List, [], _∷_}
+use Prim.Native.Nat.{ℕ, _+_, _-_, _≤_, _<_}
+use native.Mathlib.Nat.{le-refl}
+use native.Mathlib.Decide.{decLt}
+use native.Mathlib.Omega.{arith}
+use Rattle.lists.specs.Lists.{total}
+use Rattle.lists.proofs.Tests.{ltb-elim}
+use Rattle.ticks.specs.declared.Instant.{Instant}
+use Rattle.feeds.specs.declared.Feed.{Feed}
+use Rattle.feeds.specs.Round.{periods, roundOf}
+use Rattle.jobs.specs.declared.Job.{Job}
+use Rattle.edf.specs.Book.{Book}
+use Rattle.edf.specs.Owed.{owedBy, Room, RoomBelow}
+use Rattle.edf.specs.Order.{InOrder as BookInOrder}
+use Rattle.edf.proofs.Demand.{byThen-in, byThen-out}
+use Rattle.edf.proofs.Sound.{owedBy-past}
+use Rattle.edf.proofs.Horizon.{room-within-horizon}
+use Rattle.edf.proofs.Equality.{fits-iff-room}
+use Rattle.ledger.specs.Reading.{bookOf}
+use Rattle.ledger.specs.InOrder.{InOrder}
+use Rattle.ledger.proofs.InOrder.{book-in-order, book-light, book-round}
+use Rattle.room.specs.Owed.{jobOwes, earlier, lastDue, horizonOf}
+use Rattle.room.specs.Walk.{Until, RoomSays, FitsSays}
+use Rattle.room.proofs.Owed.{last-beyond}
+
+-- what stays as it is up to one instant stays so up to the earlier of it and another
+pub until-cut : (owed : ℕ → ℕ) (by x till : ℕ) → by < x → by < till → ((E : ℕ) → by ≤ E → E < x → owed E ≡ owed by)
+    → Until owed by till (earlier x till)
+until-cut owed by x till h k s =
+    ltb-elim (λ b. Until owed by till (cond b till x)) till x
+    (λ l. record { after = k; within = le-refl till; still = λ E p q. s E p (omega arith) })
+    (λ l. record { after = h; within = l; still = s })
+
+-- two debts that stay as they are, together
+pub until-both : (f g owed : ℕ → ℕ) (by till m r : ℕ) → ((D : ℕ) → f D + g D ≡ owed D) → Until f by till m → Until g by m r → Until owed by till r
+until-both f g owed by till m r e u v =
+    record {
+      after = v .after;
+      within = omega (arith, u .within, v .within);
+      still = λ E h k. omega (arith, e E, e by, u .still E h (omega (arith, v .within)), v .still E h k);
+    }
+
+-- a job past its deadline owes what it owes
+pub job-still-past : (j : Job) (by : ℕ) → j .deadline .0 ≤ by → (E : ℕ) → by ≤ E → jobOwes E j ≡ jobOwes by j
+job-still-past j by h E k = byThen-in E (j .deadline .0) (j .owed .0) (omega arith) ∙ sym (byThen-in by (j .deadline .0) (j .owed .0) h)
+
+-- and nothing before it
+pub job-still-before : (j : Job) (by : ℕ) → (E : ℕ) → by ≤ E → E < j .deadline .0 → jobOwes E j ≡ jobOwes by j
+job-still-before j by E k h =
+    byThen-out E (j .deadline .0) (j .owed .0) h ∙ sym (byThen-out by (j .deadline .0) (j .owed .0) (omega arith))
+
+module _ {A : Type 0} (f : ℕ → A → ℕ) (by : ℕ) (xs : List A) where
+  -- up to `next` what xs owe stays as it is, but for those that are left to look at
+  abbrev pub StillBut : ℕ → List A → Type 0
+  StillBut next left =
+      (E : ℕ) → by ≤ E → E < next → total (f E) xs + total (f by) left ≡ total (f by) xs + total (f E) left
+
+  pub still-first : (next : ℕ) → StillBut next xs
+  still-first next E h k = omega arith
+
+  pub still-next : (next r : ℕ) (left : List A) (x : A) (rest : List A) → left ≡ x ∷ rest → StillBut next left → Until (λ D. f D x) by next r → StillBut r rest
+  still-next next r left x rest e s u E h k =
+      omega (
+        arith,
+        s E h (omega (arith, u .within)),
+        u .still E h k,
+        ap (total (f E)) e,
+        ap (total (f by)) e,
+      )
+
+  pub still-last : (next till : ℕ) (left : List A) → left ≡ [] → StillBut next left → by < next → next ≤ till → Until (λ D. total (f D) xs) by till next
+  still-last next till left e s h k =
+      record {
+        after = h;
+        within = k;
+        still = λ E p q. omega (arith, s E p q, ap (total (f E)) e, ap (total (f by)) e);
+      }
+
+-- nothing lies between the clock and itself
+pub room-first : (b : Book) → RoomBelow (b .clock) b
+unfolding RoomBelow
+room-first b D h k = absurd (omega arith)
+
+-- room by one due instant is room up to the next
+pub room-next : (b : Book) (by till r : ℕ) → b .clock ≤ by → owedBy b by ≤ by - b .clock → Until (owedBy b) by till r → RoomBelow by b → RoomBelow r b
+unfolding RoomBelow
+room-next b by till r c h u near D k l = go (decLt D by)
+  where
+    go : Dec (D < by) → owedBy b D ≤ D - b .clock
+    go (yes p) = near D k p
+    go (no p) = omega (arith, u .still D (omega arith) l)
+
+-- more is owed by an instant than there is time
+pub room-stops : (b : Book) (by H : ℕ) → BookInOrder b → b .clock ≤ by → by < H → by - b .clock < owedBy b by → RoomBelow H b → ⊥
+unfolding RoomBelow
+room-stops b by H o c h k near = go (decLt (b .clock) by)
+  where
+    go : Dec (b .clock < by) → ⊥
+    go (yes p) = omega (arith, near by p h)
+    go (no p) = omega (arith, owedBy-past b by o (omega arith))
+
+pub room-shrinks : (b : Book) (by H : ℕ) → H ≤ by → RoomBelow by b → RoomBelow H b
+unfolding RoomBelow
+room-shrinks b by H h near D k l = near D k (omega arith)
+
+-- LINE 6: room below the horizon is what fits means, in both directions
+pub fits-says : (clock : Instant) (fs : List Feed) (js : List Job) (r : Bool) → InOrder clock fs js
+    → RoomSays r (horizonOf clock fs js) (bookOf clock fs js)
+    → FitsSays r (bookOf clock fs js)
+unfolding Room RoomBelow horizonOf
+fits-says clock fs js r o s =
+    let b = bookOf clock fs js in
+    let order = book-in-order clock fs js o in
+    let same = fits-iff-room b order (book-light 1 fs (o .feeds)) in
+    record {
+      yes = λ e. same .1
+          (room-within-horizon b (roundOf (periods fs)) (lastDue clock fs js) order (book-round 1 fs (o .feeds)) (last-beyond clock fs js) (s .yes e));
+      no = λ e fit. s .no e (λ D h k. same .0 fit D h);
+    }

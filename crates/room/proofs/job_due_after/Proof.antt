@@ -1,0 +1,22 @@
+-- `room::job_due_after` meets its contract, by whether the deadline has come. Assumes nothing.
+use native.Mathlib.Nat.{le-refl}
+use borrow.Author.Needs.{needs}
+use Rattle.room.specs.Owed.{jobOwes}
+use Rattle.room.proofs.Walk.{until-cut, job-still-past, job-still-before}
+use Rattle.room.proofs.job_due_after.Statement.{statement}
+use Rattle.room.proofs.job_due_after.Tie as tie
+
+returns : tie.Need-returns
+returns c = record { after = search needs; within = le-refl _; still = λ E h k. job-still-past (c .before .before .before .args .job) _ (c .if1 .taken) E h }
+
+earlier-requires : tie.Need-earlier-requires
+earlier-requires c κs = search needs
+
+returns-2 : tie.Need-returns-2
+returns-2 c =
+    let job = c .before .before .before .before .args .job in
+    rw (c .earlier .ensures)
+    (until-cut (λ D. jobOwes D job) _ _ _ (c .before .if1 .left) (c .before .before .before .before .pre) (job-still-before job _))
+
+pub job-due-after-spec : {M : Type 1} → statement M
+job-due-after-spec = tie.close (tie.spec returns earlier-requires returns-2)

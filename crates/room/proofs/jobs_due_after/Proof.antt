@@ -1,0 +1,83 @@
+-- `room::jobs_due_after` meets its contract: up to the instant found so far nothing comes due, but for the jobs that are
+-- left to look at. Assumes nothing.
+use mathlib.Core.Path.{_≡_}
+use Prim.Native.Nat.{_-_, _≤_, _<_}
+use native.Mathlib.Nat.{le-refl}
+use native.Mathlib.Omega.{arith}
+use borrow.Author.Needs.{needs}
+use lib.ListN.{length, drop}
+use Rattle.lists.proofs.Places.{length-mapped, next-live, no-more-live}
+use Rattle.jobs.specs.Jobs.{live, noJob}
+use Rattle.room.specs.Owed.{jobOwes}
+use Rattle.room.proofs.Walk.{StillBut, still-first, still-next, still-last}
+use Rattle.room.proofs.jobs_due_after.Statement.{statement}
+use Rattle.room.proofs.jobs_due_after.Tie as tie
+
+abbrev Inv-loop : tie.InvT-loop
+Inv-loop by table count next₀ i₀ next i = (i ≤ count) × (by .0 < next .0) × (next .0 ≤ next₀ .0) × StillBut jobOwes (by .0) (live table) (next .0) (drop i (live table))
+
+abbrev μ-loop : tie.MeasureT-loop
+μ-loop by table count next₀ i₀ next i = count - i
+
+loop-holds : tie.Need-loop-holds Inv-loop μ-loop
+loop-holds c = (omega arith, omega arith, le-refl _, still-first jobOwes _ (live (c .args .t1)) _)
+
+few : (c : tie.Start Inv-loop μ-loop) → c .args .t1 .count ≤ length (c .args .t1 .jobs)
+few c =
+    let long : length (c .args .t1 .jobs) ≡ 64 = search (needs, length-mapped) in
+    omega arith
+
+mul-job-due-after : tie.Need-mul-job-due-after Inv-loop μ-loop
+mul-job-due-after c = search needs
+
+element-copy-out-job-due-after : tie.Need-element-copy-out-job-due-after Inv-loop μ-loop
+element-copy-out-job-due-after c = search needs
+
+job-due-after-requires : tie.Need-job-due-after-requires Inv-loop μ-loop
+job-due-after-requires c κs = search needs
+
+add-i : tie.Need-add-i Inv-loop μ-loop
+add-i c = search needs
+
+loop-less : tie.Need-loop-less Inv-loop μ-loop
+loop-less c = search needs
+
+loop-again : tie.Need-loop-again Inv-loop μ-loop
+loop-again c =
+    let table = c .before .before .before .before .args .t1 in
+    let i = c .before .before .before .loop .i in
+    let inv = c .before .before .before .loop .inv in
+    let until = c .job-due-after .ensures in (
+      omega arith,
+      until .after,
+      omega (arith, until .within),
+      still-next jobOwes _ (live table) _ _ _ _ _
+          (next-live (table .jobs) (table .count) i noJob (c .before .before .loop-test .taken) (few (c .before .before .before .before)))
+          (inv .3)
+          until,
+    )
+
+returns : tie.Need-returns Inv-loop μ-loop
+returns c =
+    let table = c .before .before .args .t1 in
+    let inv = c .before .loop .inv in
+    still-last jobOwes _ (live table) _ _ _
+    (no-more-live (table .jobs) (table .count) (c .before .loop .i) (c .loop-test .left) (few (c .before .before)))
+    (inv .3)
+    (inv .1)
+    (inv .2)
+
+pub jobs-due-after-spec : {M : Type 1} → statement M
+jobs-due-after-spec =
+    tie.close
+    (tie.spec
+    Inv-loop
+    μ-loop
+    loop-holds
+    mul-job-due-after
+    element-copy-out-job-due-after
+    job-due-after-requires
+    add-i
+    loop-less
+    loop-again
+    returns)

@@ -1,0 +1,41 @@
+-- `room::next_due` meets its contract: nothing of the jobs and nothing of the feeds comes due in between.
+-- Assumes nothing.
+use Rattle.lists.specs.Lists.{total}
+use Rattle.lists.proofs.Lists.{each-both}
+use Rattle.feeds.specs.Feeds.{FeedIn, live as liveFeeds}
+use Rattle.jobs.specs.Jobs.{live as liveJobs}
+use Rattle.edf.specs.Owed.{owedBy}
+use Rattle.ledger.specs.Pieces.{PieceIn}
+use Rattle.ledger.specs.Reading.{bookOf}
+use Rattle.room.specs.Owed.{jobOwes, feedOwes}
+use Rattle.room.proofs.Owed.{owed-by-is}
+use Rattle.room.proofs.Walk.{until-both}
+use Rattle.room.proofs.next_due.Statement.{statement}
+use Rattle.room.proofs.next_due.Tie as tie
+
+jobs-due-after-requires : tie.Need-jobs-due-after-requires
+jobs-due-after-requires c κs = (c .pre .0 .fewJobs, c .pre .2)
+
+feeds-due-after-requires : tie.Need-feeds-due-after-requires
+feeds-due-after-requires c κs =
+    let start = c .before in
+    let o = start .pre .0 .order in (
+      start .pre .0 .fewFeeds,
+      each-both FeedIn (PieceIn (start .args .clock)) (liveFeeds (start .args .feeds)) (o .feeds .within) (o .pieces),
+      start .pre .1,
+      c .jobs-due-after .ensures .after,
+    )
+
+returns : tie.Need-returns
+returns c =
+    let start = c .before .before in
+    let clock = start .args .clock in
+    let fs = liveFeeds (start .args .feeds) in
+    let js = liveJobs (start .args .table) in
+    until-both (λ D. total (jobOwes D) js) (λ D. total (feedOwes (clock .0) D) fs) (owedBy (bookOf clock fs js)) _ _ _ _
+    (λ D. owed-by-is clock fs js D (start .pre .0 .order .feeds .within))
+    (c .before .jobs-due-after .ensures)
+    (c .feeds-due-after .ensures)
+
+pub next-due-spec : {M : Type 1} → statement M
+next-due-spec = tie.close (tie.spec jobs-due-after-requires feeds-due-after-requires returns)

@@ -1,0 +1,23 @@
+-- What the walk over the due instants finds.
+use mathlib.Core.Path.{_≡_}
+use mathlib.Core.Bool.{Bool, true, false}
+use Prim.Native.Nat.{ℕ, _≤_, _<_}
+use Rattle.edf.specs.Book.{Book}
+use Rattle.edf.specs.Fits.{Fits}
+use Rattle.edf.specs.Owed.{RoomBelow}
+
+-- r comes after `by` and no later than `till`, and from `by` up to r nothing comes due: what is owed stays as it is
+pub record Until (owed : ℕ → ℕ) (by till r : ℕ) : Type 0 where
+  pub after : by < r
+  pub within : r ≤ till
+  pub still : (E : ℕ) → by ≤ E → E < r → owed E ≡ owed by
+
+-- whether there is room by every instant below the horizon
+pub record RoomSays (r : Bool) (horizon : ℕ) (b : Book) : Type 0 where
+  pub yes : r ≡ true → RoomBelow horizon b
+  pub no : r ≡ false → RoomBelow horizon b → ⊥
+
+-- line 6: whether everything fits, by the choices of the rules
+pub record FitsSays (r : Bool) (b : Book) : Type 0 where
+  pub yes : r ≡ true → Fits b
+  pub no : r ≡ false → Fits b → ⊥

@@ -1,0 +1,222 @@
+// Whether everything fits: what is owed by an instant, the next instant at which something is due, how far one has to
+// look, and the walk that asks at each whether there is time enough.
+// It must not know refusals, nor the step.
+use feeds::Feed;
+use feeds::Feeds;
+use jobs::Job;
+use jobs::Table;
+use ticks::Instant;
+use ticks::Length;
+ghost use mathlib.Core.Path.{_≡_};
+ghost use Prim.Native.Nat.{_+_, _*_, _≤_, _<_};
+ghost use Rattle.lists.specs.Lists.{total, Each};
+ghost use Rattle.ticks.specs.Ticks.{lastInstant, mostJob, instant, ticks};
+ghost use Rattle.feeds.specs.Feeds.{mostFeeds, FeedIn, live as liveFeeds};
+ghost use Rattle.jobs.specs.Jobs.{mostJobs, live as liveJobs};
+ghost use Rattle.edf.specs.Owed.{owedBy};
+ghost use Rattle.ledger.specs.Reading.{bookOf};
+ghost use Rattle.room.specs.Owed.{Ordered, jobOwes, Modest, firstDue, feedOwes, FeedOrdered, mostOfFeed, Reach};
+ghost use Rattle.room.specs.Owed.{later, earlier, lastOf, horizonOf};
+ghost use Rattle.room.specs.Walk.{Until, RoomSays, FitsSays};
+
+// A job counts from its deadline on.
+fn job_owes(job: Job, by: Instant) -> u64
+    ensures { λ r. ⌜ r ≡ jobOwes (by .0) job ⌝ }
+{
+    if job.deadline.0 <= by.0 {
+        return job.owed.0;
+    }
+    0
+}
+
+// What the jobs owe by an instant.
+fn jobs_owe(table: Table, by: Instant) -> u64
+    requires { ⌜ (table .count ≤ mostJobs) × Each Modest (liveJobs table) ⌝ }
+    ensures { λ r. ⌜ (r ≡ total (jobOwes (by .0)) (liveJobs table)) × (r ≤ mostJobs * mostJob) ⌝ }
+{
+    let count = table.count;
+    let mut sum = 0;
+    for i in 0..count {
+        sum += job_owes(table.jobs[i], by);
+    }
+    sum
+}
+
+// When the current piece is due: its feed's next piece comes then.
+fn first_due(feed: Feed, clock: Instant) -> Instant
+    requires { ⌜ FeedIn feed × (clock .0 ≤ lastInstant) ⌝ }
+    ensures { λ r. ⌜ r ≡ instant (firstDue (clock .0) feed) ⌝ }
+{
+    let since = (clock.0 + feed.period.0 - feed.offset.0) % feed.period.0;
+    clock.plus(Length(feed.period.0 - since))
+}
+
+// The current piece counts from its deadline on, and from then on a whole piece more with every period.
+fn feed_owes(feed: Feed, clock: Instant, by: Instant) -> u64
+    requires { ⌜ FeedOrdered clock feed × Reach clock by ⌝ }
+    ensures { λ r. ⌜ (r ≡ feedOwes (clock .0) (by .0) feed) × (r ≤ mostOfFeed) ⌝ }
+{
+    let due = first_due(feed, clock);
+    if by.0 < due.0 {
+        return 0;
+    }
+    let pieces = by.less(due).0 / feed.period.0;
+    feed.owes.0 + feed.work.0 * pieces
+}
+
+// What the feeds owe by an instant.
+fn feeds_owe(feeds: Feeds, clock: Instant, by: Instant) -> u64
+    requires { ⌜ (feeds .count ≤ mostFeeds) × Each (FeedOrdered clock) (liveFeeds feeds) × Reach clock by ⌝ }
+    ensures { λ r. ⌜ (r ≡ total (feedOwes (clock .0) (by .0)) (liveFeeds feeds)) × (r ≤ mostFeeds * mostOfFeed) ⌝ }
+{
+    let count = feeds.count;
+    let mut sum = 0;
+    for i in 0..count {
+        sum += feed_owes(feeds.feeds[i], clock, by);
+    }
+    sum
+}
+
+// All that is owed by an instant.
+fn owed_by(clock: Instant, feeds: Feeds, table: Table, by: Instant) -> Length
+    requires { ⌜ Ordered clock feeds table × Reach clock by ⌝ }
+    ensures { λ r. ⌜ r ≡ ticks (owedBy (bookOf clock (liveFeeds feeds) (liveJobs table)) (by .0)) ⌝ }
+{
+    Length(jobs_owe(table, by) + feeds_owe(feeds, clock, by))
+}
+
+// The earlier of two instants.
+fn earlier(one: Instant, other: Instant) -> Instant
+    ensures { λ r. ⌜ r ≡ instant (earlier (one .0) (other .0)) ⌝ }
+{
+    if other.0 < one.0 {
+        return other;
+    }
+    one
+}
+
+// The deadline of a job that is not due yet.
+fn job_due_after(job: Job, by: Instant, till: Instant) -> Instant
+    requires { ⌜ by .0 < till .0 ⌝ }
+    ensures { λ r. ⌜ Until (λ D. jobOwes D job) (by .0) (till .0) (r .0) ⌝ }
+{
+    if job.deadline.0 <= by.0 {
+        return till;
+    }
+    earlier(job.deadline, till)
+}
+
+// The next deadline of the jobs.
+fn jobs_due_after(table: Table, by: Instant, till: Instant) -> Instant
+    requires { ⌜ (table .count ≤ mostJobs) × (by .0 < till .0) ⌝ }
+    ensures { λ r. ⌜ Until (λ D. total (jobOwes D) (liveJobs table)) (by .0) (till .0) (r .0) ⌝ }
+{
+    let count = table.count;
+    let mut next = till;
+    for i in 0..count {
+        next = job_due_after(table.jobs[i], by, next);
+    }
+    next
+}
+
+// The next deadline of a feed's pieces: they lie a period apart.
+fn feed_due_after(feed: Feed, clock: Instant, by: Instant, till: Instant) -> Instant
+    requires { ⌜ FeedIn feed × Reach clock by × (by .0 < till .0) ⌝ }
+    ensures { λ r. ⌜ Until (λ D. feedOwes (clock .0) D feed) (by .0) (till .0) (r .0) ⌝ }
+{
+    let due = first_due(feed, clock);
+    if by.0 < due.0 {
+        return earlier(due, till);
+    }
+    let gone = by.less(due).0 % feed.period.0;
+    earlier(by.plus(Length(feed.period.0 - gone)), till)
+}
+
+// The next deadline of the feeds' pieces.
+fn feeds_due_after(feeds: Feeds, clock: Instant, by: Instant, till: Instant) -> Instant
+    requires { ⌜ (feeds .count ≤ mostFeeds) × Each (FeedOrdered clock) (liveFeeds feeds) × Reach clock by × (by .0 < till .0) ⌝ }
+    ensures { λ r. ⌜ Until (λ D. total (feedOwes (clock .0) D) (liveFeeds feeds)) (by .0) (till .0) (r .0) ⌝ }
+{
+    let count = feeds.count;
+    let mut next = till;
+    for i in 0..count {
+        next = feed_due_after(feeds.feeds[i], clock, by, next);
+    }
+    next
+}
+
+// The next instant at which something is due, or the last that is of interest.
+fn next_due(clock: Instant, feeds: Feeds, table: Table, by: Instant, till: Instant) -> Instant
+    requires { ⌜ Ordered clock feeds table × Reach clock by × (by .0 < till .0) ⌝ }
+    ensures { λ r. ⌜ Until (owedBy (bookOf clock (liveFeeds feeds) (liveJobs table))) (by .0) (till .0) (r .0) ⌝ }
+{
+    feeds_due_after(feeds, clock, by, jobs_due_after(table, by, till))
+}
+
+// The later of two instants.
+fn later(one: Instant, other: Instant) -> Instant
+    ensures { λ r. ⌜ r ≡ instant (later (one .0) (other .0)) ⌝ }
+{
+    if one.0 < other.0 {
+        return other;
+    }
+    one
+}
+
+// The last deadline of the jobs, if it is after this instant.
+fn last_deadline(table: Table, from: Instant) -> Instant
+    requires { ⌜ table .count ≤ mostJobs ⌝ }
+    ensures { λ r. ⌜ r ≡ instant (lastOf (λ j. j .deadline .0) (liveJobs table) (from .0)) ⌝ }
+{
+    let count = table.count;
+    let mut last = from;
+    for i in 0..count {
+        let job = table.jobs[i];
+        last = later(last, job.deadline);
+    }
+    last
+}
+
+// The last of the feeds' next releases, if it is after this instant.
+fn last_release(feeds: Feeds, clock: Instant, from: Instant) -> Instant
+    requires { ⌜ (feeds .count ≤ mostFeeds) × Each FeedIn (liveFeeds feeds) × (clock .0 ≤ lastInstant) ⌝ }
+    ensures { λ r. ⌜ r ≡ instant (lastOf (firstDue (clock .0)) (liveFeeds feeds) (from .0)) ⌝ }
+{
+    let count = feeds.count;
+    let mut last = from;
+    for i in 0..count {
+        last = later(last, first_due(feeds.feeds[i], clock));
+    }
+    last
+}
+
+// A round past the last deadline and the last of the next releases everything has come back.
+fn horizon(clock: Instant, feeds: Feeds, table: Table) -> Instant
+    requires { ⌜ Ordered clock feeds table ⌝ }
+    ensures { λ r. ⌜ r ≡ instant (horizonOf clock (liveFeeds feeds) (liveJobs table)) ⌝ }
+{
+    last_release(feeds, clock, last_deadline(table, clock)).plus(feeds.round())
+}
+
+// The walk: up from the clock over the instants at which something is due.
+fn room_below(clock: Instant, feeds: Feeds, table: Table, horizon: Instant) -> bool
+    requires { ⌜ Ordered clock feeds table × Reach clock horizon × (clock .0 ≤ horizon .0) ⌝ }
+    ensures { λ r. ⌜ RoomSays r (horizon .0) (bookOf clock (liveFeeds feeds) (liveJobs table)) ⌝ }
+{
+    let mut by = clock;
+    while by.0 < horizon.0 {
+        if by.less(clock).0 < owed_by(clock, feeds, table, by).0 {
+            return false;
+        }
+        by = next_due(clock, feeds, table, by, horizon);
+    }
+    true
+}
+
+// Whether everything fits, the requested job among the jobs.
+pub fn fits(clock: Instant, feeds: Feeds, table: Table) -> bool
+    requires { ⌜ Ordered clock feeds table ⌝ }
+    ensures { λ r. ⌜ FitsSays r (bookOf clock (liveFeeds feeds) (liveJobs table)) ⌝ }
+{
+    room_below(clock, feeds, table, horizon(clock, feeds, table))
+}
