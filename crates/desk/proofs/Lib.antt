@@ -5,3 +5,4 @@ pub mod Calls
 pub mod Asking
 pub mod Reachable
 pub mod Shadow
+pub mod Promises

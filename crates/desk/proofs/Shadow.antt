@@ -155,7 +155,7 @@ refused-followed d number work lead answer x g e =
     (λ w busy. refl)
 
 -- past line 13
-lines-pass : (d : Desk) (number work lead : ℕ) → firstOf (disorder d ∷ askLines d number (ticks work) (ticks lead)) ≡ Yes
+pub lines-pass : (d : Desk) (number work lead : ℕ) → firstOf (disorder d ∷ askLines d number (ticks work) (ticks lead)) ≡ Yes
     → firstOf (askLines d number (ticks work) (ticks lead)) ≡ Yes
 unfolding firstOf
 lines-pass d number work lead e =
