@@ -5,4 +5,6 @@ pub mod Calls
 pub mod Asking
 pub mod Reachable
 pub mod Shadow
+pub mod Splits
 pub mod Promises
+pub mod Reports

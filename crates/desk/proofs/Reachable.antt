@@ -19,7 +19,7 @@ use Rattle.jobs.specs.Jobs.{mostJobs, noJob, live as liveJobs}
 use Rattle.edf.specs.Book.{Feed as BookFeed, Job as BookJob, Book, Who}
 use Rattle.edf.specs.Step.{runner, serveJob, serveFeed, serve, turnFeed, turn, stepBy, step}
 use Rattle.edf.specs.Calls.{taking, ending, restFeed, resting, Askable}
-use Rattle.edf.specs.Load.{openedFeed, opened}
+use Rattle.edf.specs.Load.{Opens, openedFeed, opened}
 use Rattle.edf.proofs.Sound.{Sound, step-is-sound}
 use Rattle.edf.proofs.Calls.{ending-is-sound, resting-is-sound}
 use Rattle.edf.proofs.Opening.{opening-is-sound}
@@ -160,11 +160,15 @@ shape : (k : ℕ) (gs : List Feed) → Each FeedIn gs → Each (λ f. (f .offset
 shape k [] h = tt
 shape k (g ∷ gs) h = ((h .0 .offset, h .0 .period .0, omega arith), shape (suc k) gs (h .1))
 
-pub opened-sound : (start : ℕ) (fs : List Feed) → Passing fs → Sound (opened start (bookFeeds 1 fs))
-opened-sound start fs p =
-    opening-is-sound start (bookFeeds 1 fs) (shape 1 fs (p .within)) (λ n. positions-once n 1 fs) (book-light 1 fs p)
+-- feeds that pass are feeds that an opening accepts
+pub passing-opens : (fs : List Feed) → Passing fs → Opens (bookFeeds 1 fs)
+passing-opens fs p = record { each = shape 1 fs (p .within); positions = λ n. positions-once n 1 fs; light = book-light 1 fs p }
 
-opened-held : (start : ℕ) (fs : List Feed) → Passing fs → start ≤ lastInstant → Held (opened start (bookFeeds 1 fs))
+opened-sound : (start : ℕ) (fs : List Feed) → Passing fs → Sound (opened start (bookFeeds 1 fs))
+opened-sound start fs p =
+    let o = passing-opens fs p in opening-is-sound start (bookFeeds 1 fs) (o .each) (o .positions) (o .light)
+
+pub opened-held : (start : ℕ) (fs : List Feed) → Passing fs → start ≤ lastInstant → Held (opened start (bookFeeds 1 fs))
 unfolding opened
 opened-held start fs p l =
     record {
