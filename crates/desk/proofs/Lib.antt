@@ -8,3 +8,4 @@ pub mod Shadow
 pub mod Splits
 pub mod Promises
 pub mod Reports
+pub mod Examples

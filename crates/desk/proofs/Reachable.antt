@@ -164,7 +164,7 @@ shape k (g ∷ gs) h = ((h .0 .offset, h .0 .period .0, omega arith), shape (suc
 pub passing-opens : (fs : List Feed) → Passing fs → Opens (bookFeeds 1 fs)
 passing-opens fs p = record { each = shape 1 fs (p .within); positions = λ n. positions-once n 1 fs; light = book-light 1 fs p }
 
-opened-sound : (start : ℕ) (fs : List Feed) → Passing fs → Sound (opened start (bookFeeds 1 fs))
+pub opened-sound : (start : ℕ) (fs : List Feed) → Passing fs → Sound (opened start (bookFeeds 1 fs))
 opened-sound start fs p =
     let o = passing-opens fs p in opening-is-sound start (bookFeeds 1 fs) (o .each) (o .positions) (o .light)
 

@@ -5,3 +5,4 @@ pub mod Calls
 pub mod Asking
 pub mod Runs
 pub mod Kept
+pub mod Examples
