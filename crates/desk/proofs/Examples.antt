@@ -1,27 +1,26 @@
--- The table of the bench examples holds, row by row, from laws by which each answer is computed.
+-- The table of the bench examples holds: a test computed over all its rows, and one law that turns it into the statement.
 use mathlib.Core.Path.{_≡_, refl, sym, ap, _∙_, subst}
 use mathlib.Core.Logic.{inl, inr}
-use mathlib.Core.Bool.{Bool, true, not, cond, _&&_}
+use mathlib.Core.Bool.{Bool, true, false, not, cond, _&&_}
 use mathlib.Core.List.{List, [], _∷_}
 use Prim.Native.Nat.{ℕ, zero, suc, _+_, _-_, _≤_, _<_, _∣_}
 use native.Mathlib.Omega.{arith}
 use native.Mathlib.Decide.{ℕ-discrete}
 use native.Mathlib.Nat.{dvd-of-mod-eq-zero}
-use lib.Dec.{leb, lit<}
-use lib.ListN.{length, drop}
+use lib.Dec.{leb, ltb, eqb}
+use lib.ListN.{drop}
 use borrow.Author.Tests.{leb-true, eqb-true}
 use Rattle.lists.specs.Lists.{every, allOf, total, Each}
-use Rattle.lists.proofs.Tests.{both, all-of}
+use Rattle.lists.proofs.Tests.{false-not-true, ltb-says, both, all-of}
 use Rattle.lists.proofs.Places.{each-of-every}
 use Rattle.ticks.specs.Ticks.{ticks}
 use Rattle.feeds.specs.declared.Listed.{Listed}
 use Rattle.feeds.specs.declared.Listed.the-variants as listed
 use Rattle.feeds.specs.Feeds.{feedIn}
 use Rattle.feeds.specs.Round.{goesInto, firstFrom, roundOf}
-use Rattle.feeds.specs.Lines.{feedsIn, shapeOf, soundOf, listedOf}
-use Rattle.feeds.proofs.Lines.{both-fine}
+use Rattle.feeds.specs.Lines.{feedsIn, orElse, shapeOf, soundOf, listedOf}
 use Rattle.feeds.proofs.Kept.{read-passes}
-use Rattle.feeds.proofs.Examples.{long-round, much}
+use Rattle.feeds.proofs.Examples.{four-numbers, long-round, much}
 use Rattle.jobs.specs.declared.Job.{Job}
 use Rattle.jobs.specs.Jobs.{lacks}
 use Rattle.edf.specs.Book.{Job as BookJob, Book}
@@ -38,29 +37,35 @@ use Rattle.edf.proofs.Calls.{taking-in-order, resting-is-sound}
 use Rattle.edf.proofs.Horizon.{room-within-horizon}
 use Rattle.ledger.specs.Reading.{bookFeeds}
 use Rattle.ledger.specs.InOrder.{Held}
-use Rattle.desk.specs.declared.Refusal.the-variants.{NotInOrder, RoundTooLong, TooMuchLoad, NotThree}
+use Rattle.desk.specs.declared.Desk.{Desk}
+use Rattle.desk.specs.declared.Refusal.the-variants.{NotInOrder, Outside, TooManyFeeds, RoundTooLong, TooMuchLoad, NotThree}
 use Rattle.desk.specs.declared.Verdict.{Verdict}
 use Rattle.desk.specs.declared.Verdict.the-variants.{Yes, No}
 use Rattle.desk.specs.Answers.{answerOf, firstOf, onYes, verdictOf}
 use Rattle.desk.specs.State.{empty, book, deskOf}
 use Rattle.desk.specs.Calls.{disorder, restLines, restOf}
 use Rattle.desk.specs.Asking.{askLines, requested, with-job, Admissible, Judged}
-use Rattle.desk.specs.Opening.{openLines, openedOf}
-use Rattle.desk.specs.Examples.{Said, asks, rests, Goes, Holds, row, x, everyTick, table}
+use Rattle.desk.specs.Opening.{notThree, tooMany, outside, roundTooLong, tooMuch, openLines, openedOf}
+use Rattle.desk.specs.Examples.{Said, asks, rests, Row, Goes, Holds, x, everyTick, table}
 use Rattle.desk.proofs.State.{book-of-desk}
-use Rattle.desk.proofs.Opening.{judged-by-feeds, listed-by-feeds}
 use Rattle.desk.proofs.Asking.{admissible}
 use Rattle.desk.proofs.Reachable.{Good, good-desk, good-held, held-taking, held-resting, opened-held, opened-sound, admissible-askable}
 
--- past lines 12 and 8 the opening says what its feeds come to
-opening-says : (xs : List ℕ) (l : Listed) → shapeOf (length xs) ≡ listed.Fine → listedOf xs ≡ l → openedOf xs 0 .verdict ≡ verdictOf l
-unfolding openedOf
-opening-says xs l h e = judged-by-feeds xs 0 h refl ∙ ap verdictOf (sym (listed-by-feeds xs h) ∙ e)
+-- the opening's lines and what its feeds come to are one: 12 and 8 of the list's length, then 2, 9 and 10 of the feeds
+same-lines : (a b c d e : Bool)
+    → cond a (No NotThree) (cond b (No TooManyFeeds) (cond c (No Outside) (cond d (No RoundTooLong) (cond e (No TooMuchLoad) Yes))))
+    ≡ verdictOf (orElse (cond a listed.NotThree (cond b listed.TooMany listed.Fine)) (cond c listed.Outside (cond d listed.RoundTooLong (cond e listed.TooMuch listed.Fine))))
+same-lines true b c d e = refl
+same-lines false true c d e = refl
+same-lines false false true d e = refl
+same-lines false false false true e = refl
+same-lines false false false false true = refl
+same-lines false false false false false = refl
 
--- AN OPENING THAT IS REFUSED
-refused-row : (xs : List ℕ) (v : Verdict) → openedOf xs 0 .verdict ≡ v → Holds (row xs (answerOf v) [])
-unfolding Holds Goes
-refused-row xs v e = (ap answerOf e, tt)
+-- an opening at instant 0 says what its feeds come to
+opening-says : (xs : List ℕ) → firstOf (openLines xs 0) ≡ verdictOf (listedOf xs)
+unfolding firstOf listedOf shapeOf soundOf
+opening-says xs = same-lines (notThree xs) (tooMany xs) (outside (feedsIn xs)) (roundTooLong (feedsIn xs)) (tooMuch (feedsIn xs))
 
 -- a book with room that a desk can hold: what an opening or a call hands back, written as a desk
 record Stands (b : Book) : Type 0 where
@@ -76,17 +81,14 @@ done : (b : Book) → From [] b
 unfolding Goes
 done b k = tt
 
--- AN OPENING THAT IS NOT REFUSED
-opened-row : (xs : List ℕ) (cs : List Said) → listedOf xs ≡ listed.Fine → From cs (opened 0 (bookFeeds 1 (feedsIn xs))) → Holds (row xs 0 cs)
-unfolding Holds openedOf listedOf
-opened-row xs cs e from =
-    let yes : firstOf (openLines xs 0) ≡ Yes = opening-says xs listed.Fine (both-fine (shapeOf (length xs)) (soundOf (feedsIn xs)) e .0) e in
+-- the book of an opening at instant 0
+abbrev first : List ℕ → Book
+first xs = opened 0 (bookFeeds 1 (feedsIn xs))
+
+first-stands : (xs : List ℕ) → listedOf xs ≡ listed.Fine → Stands (first xs)
+first-stands xs e =
     let passing = read-passes xs e in
-    let b = opened 0 (bookFeeds 1 (feedsIn xs)) in (
-      ap answerOf yes,
-      subst (Goes cs) (sym (ap (λ v. onYes v (deskOf b) empty) yes))
-          (from (record { held = opened-held 0 (feedsIn xs) passing (omega arith); sound = opened-sound 0 (feedsIn xs) passing })),
-    )
+    record { held = opened-held 0 (feedsIn xs) passing (omega arith); sound = opened-sound 0 (feedsIn xs) passing }
 
 -- A REST THAT IS NOT REFUSED
 rested : (b : Book) (position : ℕ) (cs : List Said) → firstOf (drop 1 (restLines (deskOf b) position)) ≡ Yes → From cs (resting position b)
@@ -249,27 +251,152 @@ no-feeds-open : listedOf [] ≡ listed.Fine
 unfolding listedOf shapeOf soundOf feedsIn every feedIn allOf roundOf firstFrom
 no-feeds-open = refl
 
+-- why a call answers as it does: there is room, by a round of the feeds and an instant past all deadlines and next
+-- releases; by an instant more is owed than there is time; or its lines alone say so
+data Why : Type 0 where
+  roomTo : ℕ → ℕ → Why
+  lateBy : ℕ → Why
+  byLines : Why
+
+abbrev isYes : Verdict → Bool
+isYes Yes = true
+isYes (No r) = false
+
+is-yes : (v : Verdict) → isYes v ≡ true → v ≡ Yes
+is-yes Yes e = refl
+is-yes (No r) e = absurd (false-not-true e)
+
+-- no line but the sixth stops an ask
+abbrev unstopped : Book → ℕ → ℕ → ℕ → Bool
+unstopped b number work lead = isYes (firstOf (askLines (deskOf b) number (ticks work) (ticks lead)))
+
+-- THE TEST of calls: each has its reason, and the reason holds of the book that the last one left
+unfoldable tested : List Why → List Said → Book → Bool
+tested ws [] b = true
+tested (roomTo R L ∷ ws) (asks number work lead answer ∷ cs) b =
+    allOf
+    (eqb 0 answer
+    ∷ unstopped b number work lead
+    ∷ roomy R L (more b number work lead)
+    ∷ tested ws cs (more b number work lead)
+    ∷ [])
+tested (lateBy D ∷ ws) (asks number work lead answer ∷ cs) b =
+    allOf
+    (eqb 6 answer
+    ∷ unstopped b number work lead
+    ∷ ltb (b .clock) D
+    ∷ ltb (D - b .clock) (owedBy (more b number work lead) D)
+    ∷ tested ws cs b
+    ∷ [])
+tested (byLines ∷ ws) (rests position answer ∷ cs) b =
+    allOf (eqb 0 answer ∷ isYes (firstOf (drop 1 (restLines (deskOf b) position))) ∷ tested ws cs (resting position b) ∷ [])
+tested (roomTo R L ∷ ws) (rests position answer ∷ cs) b = false
+tested (lateBy D ∷ ws) (rests position answer ∷ cs) b = false
+tested (byLines ∷ ws) (asks number work lead answer ∷ cs) b = false
+tested [] (c ∷ cs) b = false
+
+-- calls that pass the test go as they say
+tested-goes : (ws : List Why) (cs : List Said) (b : Book) → tested ws cs b ≡ true → From cs b
+unfolding tested
+tested-goes ws [] b e = done b
+tested-goes (roomTo R L ∷ ws) (asks number work lead answer ∷ cs) b e =
+    let t = all-of _ e in
+    let c = more b number work lead in
+    subst (λ n. From (asks number work lead n ∷ cs) b) (eqb-true 0 answer (t .0))
+    (taken b number work lead cs (is-yes _ (t .1 .0)) (has-room R L c (t .1 .1 .0)) (tested-goes ws cs c (t .1 .1 .1 .0)))
+tested-goes (lateBy D ∷ ws) (asks number work lead answer ∷ cs) b e =
+    let t = all-of _ e in
+    subst (λ n. From (asks number work lead n ∷ cs) b) (eqb-true 6 answer (t .0))
+    (does-not-fit b number work lead D cs (is-yes _ (t .1 .0)) (ltb-says _ _ (t .1 .1 .0)) (ltb-says _ _ (t .1 .1 .1 .0))
+    (tested-goes ws cs b (t .1 .1 .1 .1 .0)))
+tested-goes (byLines ∷ ws) (rests position answer ∷ cs) b e =
+    let t = all-of _ e in
+    subst (λ n. From (rests position n ∷ cs) b) (eqb-true 0 answer (t .0))
+    (rested b position cs (is-yes _ (t .1 .0)) (tested-goes ws cs (resting position b) (t .1 .1 .0)))
+tested-goes (roomTo R L ∷ ws) (rests position answer ∷ cs) b e = absurd (false-not-true e)
+tested-goes (lateBy D ∷ ws) (rests position answer ∷ cs) b e = absurd (false-not-true e)
+tested-goes (byLines ∷ ws) (asks number work lead answer ∷ cs) b e = absurd (false-not-true e)
+tested-goes [] (c ∷ cs) b e = absurd (false-not-true e)
+
+-- a row whose opening is refused ends there
+abbrev noCalls : List Said → Bool
+noCalls [] = true
+noCalls (c ∷ cs) = false
+
+no-calls : (cs : List Said) (d : Desk) → noCalls cs ≡ true → Goes cs d
+unfolding Goes
+no-calls [] d e = tt
+no-calls (c ∷ cs) d e = absurd (false-not-true e)
+
+-- a row's reasons: what its feeds come to, given with its proof so that the test never searches for a long round, and
+-- why each of its calls answers so
+record Evidence (xs : List ℕ) : Type 0 where
+  comes : Listed
+  known : listedOf xs ≡ comes
+  why : List Why
+
+abbrev by : {xs : List ℕ} {l : Listed} → listedOf xs ≡ l → List Why → Evidence xs
+by {xs} {l} e ws = record { comes = l; known = e; why = ws }
+
+-- THE TEST of a row: the opening answers so, and its calls pass; a refused opening has none
+abbrev rowTested : Listed → List Why → Row → Bool
+rowTested l ws r = eqb (answerOf (verdictOf l)) (r .opens) && onYes (verdictOf l) (tested ws (r .calls) (first (r .feeds))) (noCalls (r .calls))
+
+row-holds : (r : Row) (e : Evidence (r .feeds)) → rowTested (e .comes) (e .why) r ≡ true → Holds r
+unfolding Holds openedOf
+row-holds r e h =
+    let t = both (eqb (answerOf (verdictOf (e .comes))) (r .opens)) _ h in
+    let says : firstOf (openLines (r .feeds) 0) ≡ verdictOf (e .comes) = opening-says (r .feeds) ∙ ap verdictOf (e .known) in (
+      ap answerOf says ∙ eqb-true _ _ (t .0),
+      subst (λ v. Goes (r .calls) (onYes v (deskOf (first (r .feeds))) empty)) (sym says) (go (e .comes) (e .known) (t .1)),
+    )
+  where
+    go : (l : Listed) → listedOf (r .feeds) ≡ l → onYes (verdictOf l) (tested (e .why) (r .calls) (first (r .feeds))) (noCalls (r .calls)) ≡ true
+        → Goes (r .calls) (onYes (verdictOf l) (deskOf (first (r .feeds))) empty)
+    go listed.Fine k t = tested-goes (e .why) (r .calls) (first (r .feeds)) t (first-stands (r .feeds) k)
+    go listed.NotThree k t = no-calls (r .calls) empty t
+    go listed.TooMany k t = no-calls (r .calls) empty t
+    go listed.Outside k t = no-calls (r .calls) empty t
+    go listed.RoundTooLong k t = no-calls (r .calls) empty t
+    go listed.TooMuch k t = no-calls (r .calls) empty t
+
+-- THE TEST of all rows
+unfoldable allTested : (rs : List Row) → Each (λ r. Evidence (r .feeds)) rs → Bool
+allTested [] es = true
+allTested (r ∷ rs) es = rowTested (es .0 .comes) (es .0 .why) r && allTested rs (es .1)
+
+-- THE ONE LAW: rows that pass the test hold
+tested-holds : (rs : List Row) (es : Each (λ r. Evidence (r .feeds)) rs) → allTested rs es ≡ true → Each Holds rs
+unfolding allTested
+tested-holds [] es h = tt
+tested-holds (r ∷ rs) es h =
+    let t = both (rowTested (es .0 .comes) (es .0 .why) r) (allTested rs (es .1)) h in
+    (row-holds r (es .0) (t .0), tested-holds rs (es .1) (t .1))
+
 -- one row, then the others
 infixr 10 _⊹_
-_⊹_ : {A B : Type 0} → A → B → A × B
+abbrev _⊹_ : {A B : Type 0} → A → B → A × B
 h ⊹ hs = (h, hs)
 
--- THE TABLE HOLDS: a taken ask by its feeds' round and an instant past all deadlines and next releases, a refused one by
--- an instant that it would be late by
-pub the-table-holds : Each Holds table
-unfolding openedOf shapeOf opened feedsIn firstOf lacks every taking resting roomy enough allOf owedBy byThen since
-the-table-holds =
-    opened-row x _ x-opens (taken _ 1 3 6 _ refl (has-room 12 6 _ refl) (done _))
-    ⊹ opened-row x _ x-opens (does-not-fit _ 1 4 6 6 _ refl (lit< tt) (lit< tt) (done _))
-    ⊹ opened-row x _ x-opens (taken _ 1 4 7 _ refl (has-room 12 7 _ refl) (done _))
-    ⊹ opened-row x _ x-opens (taken _ 1 5 12 _ refl (has-room 12 12 _ refl) (done _))
-    ⊹ opened-row x _ x-opens (does-not-fit _ 1 6 12 12 _ refl (lit< tt) (lit< tt) (done _))
-    ⊹ opened-row x _ x-opens (taken _ 1 6 13 _ refl (has-room 12 13 _ refl) (done _))
-    ⊹ opened-row everyTick _ every-tick-opens (does-not-fit _ 1 1 65536 65536 _ refl (lit< tt) (lit< tt) (done _))
-    ⊹ opened-row everyTick _ every-tick-opens (rested _ 1 _ refl (taken _ 1 1 1 _ refl (has-room 4 4 _ refl) (done _)))
-    ⊹ opened-row _ _ one-feed-opens (does-not-fit _ 1 1 1 4 _ refl (lit< tt) (lit< tt) (done _))
-    ⊹ opened-row [] _ no-feeds-open (taken _ 1 3 4 _ refl (has-room 1 4 _ refl) (does-not-fit _ 2 2 2 4 _ refl (lit< tt) (lit< tt) (done _)))
-    ⊹ refused-row _ (No NotThree) refl
-    ⊹ refused-row _ (No RoundTooLong) (opening-says _ _ refl long-round)
-    ⊹ refused-row _ (No TooMuchLoad) (opening-says _ _ refl much)
+-- THE EVIDENCE, row by row
+abbrev evidence : Each (λ r. Evidence (r .feeds)) table
+evidence =
+    by x-opens (roomTo 12 6 ∷ [])
+    ⊹ by x-opens (lateBy 6 ∷ [])
+    ⊹ by x-opens (roomTo 12 7 ∷ [])
+    ⊹ by x-opens (roomTo 12 12 ∷ [])
+    ⊹ by x-opens (lateBy 12 ∷ [])
+    ⊹ by x-opens (roomTo 12 13 ∷ [])
+    ⊹ by every-tick-opens (lateBy 65536 ∷ [])
+    ⊹ by every-tick-opens (byLines ∷ roomTo 4 4 ∷ [])
+    ⊹ by one-feed-opens (lateBy 4 ∷ [])
+    ⊹ by no-feeds-open (roomTo 1 4 ∷ lateBy 4 ∷ [])
+    ⊹ by four-numbers []
+    ⊹ by long-round []
+    ⊹ by much []
     ⊹ tt
+
+-- THE TABLE HOLDS: every row passes
+pub the-table-holds : Each Holds table
+unfolding allTested tested opened feedsIn firstOf lacks every taking resting roomy enough allOf owedBy byThen since
+the-table-holds = tested-holds table evidence refl
