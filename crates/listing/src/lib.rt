@@ -124,14 +124,15 @@ fn record_of(number: u32, labels: &[u8]) -> Found
 fn feed_place(position: u32, long: usize) -> Part
     ensures { λ r. ⌜ r ≡ feedPlace position long ⌝ }
 {
-    if position < 1 {
+    if position == 0 {
         return Part {
             list: 1,
             from: 0,
             size: 0,
         };
     }
-    let from = 8 * (position as usize - 1);
+    let before = position as usize - 1;
+    let from = 8 * before;
     if long < from + 8 {
         return Part {
             list: 1,

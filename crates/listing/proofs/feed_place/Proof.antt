@@ -11,8 +11,8 @@ use Rattle.listing.proofs.feed_place.Tie as tie
 returns : tie.Need-returns
 returns c = sym (feed-none (c .before .args .position) (c .before .args .long) (omega arith))
 
-sub-from : tie.Need-sub-from
-sub-from c = search needs
+sub-before : tie.Need-sub-before
+sub-before c = search needs
 
 mul-from : tie.Need-mul-from
 mul-from c = search needs
@@ -31,4 +31,4 @@ returns-3 c =
     ∙ sym (feed-there p (c .before .before .args .long) (8 * (p - 1)) (8 * (p - 1) + 8) (omega arith) (omega arith) refl refl)
 
 pub feed-place-spec : {M : Type 1} → statement M
-feed-place-spec = tie.close (tie.spec returns sub-from mul-from add-if2 returns-2 returns-3)
+feed-place-spec = tie.close (tie.spec returns sub-before mul-from add-if2 returns-2 returns-3)
