@@ -1,0 +1,31 @@
+use borrow.Author.Needs.{needs}
+use Rattle.rehearsal.proofs.put.worded.Statement.{statement}
+use Rattle.rehearsal.proofs.put.worded.Tie as tie
+use Rattle.rehearsal.proofs.put.worded.Reads as reads
+use Rattle.rehearsal.proofs.put.worded.Lts as lts
+use Rattle.words.proofs.put.number.Reads as number-reads
+use Rattle.words.proofs.put.text.Reads as text-reads
+
+-- src/put.rt:15:9
+text-requires : tie.Need-text-requires
+text-requires c κs = search needs
+
+-- src/put.rt:16:9
+number-requires : tie.Need-number-requires
+number-requires c κs = ?
+
+-- src/put.rt:17:5
+text-requires-2 : tie.Need-text-requires-2
+text-requires-2 c κs = ?
+
+-- src/put.rt:11:1
+same-length : tie.Need-same-length
+same-length c = search needs
+
+-- src/put.rt:11:1
+returns : tie.Need-returns
+returns c = ?
+
+pub worded-spec : {M : Type 1} → statement M
+worded-spec =
+    tie.close (tie.spec text-requires number-requires text-requires-2 same-length returns)
