@@ -1,5 +1,5 @@
 -- What each line and each tick of a rehearsal says, and the session after it.
-use mathlib.Core.Bool.{Bool, true, false, not, cond, _||_}
+use mathlib.Core.Bool.{true, false, not, cond, _||_}
 use Prim.Native.Nat.{ℕ, _+_, _*_, _-_}
 use lib.Dec.{leb, ltb, eqb}
 use lib.ListN.{take, set, replicate}
@@ -107,7 +107,10 @@ ranOf s instant (ran.Feed position owes) = turn s (Said.Feed instant position)
 ranOf s instant ran.Idle = turn s (Said.Idle instant)
 ranOf s instant (ran.No r) = stoppedOf s r
 
+-- a tick of a run by what the desk's step hands back
+abbrev pub steppedOf : Session → Stepped → Turn
+steppedOf s x = ranOf (withLeft (withDesk s (x .desk)) (s .left - 1)) (s .desk .clock .0) (x .ran)
+
 -- one tick of a run: its instant and whom the step names
 unfoldable pub tickOf : Session → Turn
-tickOf s =
-    ranOf (withLeft (withDesk s (desk.stepOf (s .desk) .desk)) (s .left - 1)) (s .desk .clock .0) (desk.stepOf (s .desk) .ran)
+tickOf s = steppedOf s (desk.stepOf (s .desk))

@@ -1,3 +1,5 @@
+use mathlib.Core.Bool.{false}
+use lib.ListN.{replicate}
 use borrow.Author.Needs.{needs}
 use Rattle.rehearsal.proofs.Session.begin.Statement.{statement}
 use Rattle.rehearsal.proofs.Session.begin.Tie as tie
@@ -11,7 +13,7 @@ none-requires c κs = search needs
 
 -- src/lib.rt:97:5
 returns : tie.Need-returns
-returns c = ?
+returns c = λ i. record { desk = c .none .ensures i; list = replicate 51 0; feeds = 0; opened = false; over = false; left = 0 }
 
 pub begin-spec : {M : Type 1} → statement M
 begin-spec = tie.close (tie.spec none-requires returns)

@@ -1,3 +1,8 @@
+use mathlib.Core.Path.{_≡_, _∙_}
+use mathlib.Core.Bool.{false}
+use lib.Dec.{leb}
+use borrow.Author.Tests.{le-leb, lt-leb}
+use Rattle.rehearsal.specs.Session.{feedOf, mostFeedLines}
 use borrow.Author.Needs.{needs}
 use Rattle.rehearsal.proofs.Session.feed.Statement.{statement}
 use Rattle.rehearsal.proofs.Session.feed.Tie as tie
@@ -11,7 +16,8 @@ bad-requires c κs = search needs
 
 -- src/lib.rt:126:13
 returns : tie.Need-returns
-returns c = ?
+unfolding feedOf
+returns c = c .bad .ensures ∙ rw (c .before .if1 .taken)
 
 -- src/lib.rt:129:13
 bad-requires-2 : tie.Need-bad-requires-2
@@ -19,7 +25,9 @@ bad-requires-2 c κs = search needs
 
 -- src/lib.rt:129:13
 returns-2 : tie.Need-returns-2
-returns-2 c = ?
+unfolding feedOf
+returns-2 c =
+    c .bad2 .ensures ∙ rw (c .before .before .before .if1 .left, le-leb _ _ (c .before .if2 .taken))
 
 -- src/lib.rt:131:18
 mul-at : tie.Need-mul-at
@@ -63,7 +71,10 @@ add-session-3 c = search needs
 
 -- src/lib.rt:122:5
 returns-3 : tie.Need-returns-3
-returns-3 c = ?
+unfolding feedOf
+returns-3 c =
+    let many : leb mostFeedLines (c .before .before .before .before .before .args .self .feeds) ≡ false = lt-leb _ _ (c .before .before .if2 .left) in
+    rw (c .before .before .before .before .if1 .left, many)
 
 pub feed-spec : {M : Type 1} → statement M
 feed-spec =

@@ -1,3 +1,4 @@
+use Rattle.rehearsal.specs.Hearing.{Heard}
 use borrow.Author.Needs.{needs}
 use Rattle.rehearsal.proofs.Session.hear.Statement.{statement}
 use Rattle.rehearsal.proofs.Session.hear.Tie as tie
@@ -69,31 +70,38 @@ bad-requires c κs = search needs
 
 -- src/lib.rt:238:5
 returns : tie.Need-returns
-returns c = ?
+unfolding Heard
+returns c = rw (c .before .before .means .given .1) (c .feed .ensures)
 
 -- src/lib.rt:238:5
 returns-2 : tie.Need-returns-2
-returns-2 c = ?
+unfolding Heard
+returns-2 c = rw (c .before .before .means2 .given .1) (c .go .ensures)
 
 -- src/lib.rt:238:5
 returns-3 : tie.Need-returns-3
-returns-3 c = ?
+unfolding Heard
+returns-3 c = rw (c .before .before .means3 .given .1) (c .ask .ensures)
 
 -- src/lib.rt:238:5
 returns-4 : tie.Need-returns-4
-returns-4 c = ?
+unfolding Heard
+returns-4 c = rw (c .before .before .means4 .given .1) (c .end .ensures)
 
 -- src/lib.rt:238:5
 returns-5 : tie.Need-returns-5
-returns-5 c = ?
+unfolding Heard
+returns-5 c = rw (c .before .before .means5 .given .1) (c .rest .ensures)
 
 -- src/lib.rt:238:5
 returns-6 : tie.Need-returns-6
-returns-6 c = ?
+unfolding Heard
+returns-6 c = rw (c .before .before .means6 .given .1) (c .run .ensures)
 
 -- src/lib.rt:238:5
 returns-7 : tie.Need-returns-7
-returns-7 c = ?
+unfolding Heard
+returns-7 c = rw (c .before .enum-told .given .1) (c .bad .ensures)
 
 pub hear-spec : {M : Type 1} → statement M
 hear-spec =

@@ -1,3 +1,8 @@
+use mathlib.Core.Path.{refl, sym, _∙_}
+use native.Mathlib.Omega.{arith}
+use Rattle.words.specs.Fields.{newline}
+use Rattle.words.proofs.Fields.{found-at}
+use Rattle.rehearsal.specs.Hearing.{HeardTo}
 use borrow.Author.Needs.{needs}
 use Rattle.rehearsal.proofs.Session.read.Statement.{statement}
 use Rattle.rehearsal.proofs.Session.read.Tie as tie
@@ -22,19 +27,21 @@ enum-known-end c = search needs
 
 -- src/lib.rt:302:28
 add-next : tie.Need-add-next
-add-next c = ?
+add-next c = omega (arith, found-at newline _ _ _ (sym (c .before .before .before .line-end .ensures) ∙ c .before .end .given .1) .inside)
 
 -- src/lib.rt:304:60
 sub-read-line : tie.Need-sub-read-line
-sub-read-line c = ?
+sub-read-line c = found-at newline _ _ _ (sym (c .before .before .before .line-end .ensures) ∙ c .before .end .given .1) .after
 
 -- src/lib.rt:304:60
 part-read-line-start : tie.Need-part-read-line-start
-part-read-line-start c = ?
+part-read-line-start c =
+    let there = found-at newline _ _ _ (sym (c .before .before .before .line-end .ensures) ∙ c .before .end .given .1) in
+    omega (arith, there .inside, there .after)
 
 -- src/lib.rt:304:60
 part-read-line-end : tie.Need-part-read-line-end
-part-read-line-end c = ?
+part-read-line-end c = omega (arith, found-at newline _ _ _ (sym (c .before .before .before .line-end .ensures) ∙ c .before .end .given .1) .inside)
 
 -- src/lib.rt:304:43
 read-line-requires : tie.Need-read-line-requires
@@ -54,11 +61,17 @@ bad-requires c κs = search needs
 
 -- src/lib.rt:294:5
 returns : tie.Need-returns
-returns c = ?
+unfolding HeardTo
+returns c =
+    let there = sym (c .before .before .before .before .before .before .line-end .ensures) ∙ c .before .before .before .before .end .given .1 in
+    record { heard = rw there (rw (c .before .read-line .ensures) at (c .hear .ensures), refl); counted = refl }
 
 -- src/lib.rt:294:5
 returns-2 : tie.Need-returns-2
-returns-2 c = ?
+unfolding HeardTo
+returns-2 c =
+    let none = sym (c .before .before .before .line-end .ensures) ∙ c .before .enum-told .given .1 in
+    record { heard = rw none (c .bad .ensures, refl); counted = refl }
 
 pub read-spec : {M : Type 1} → statement M
 read-spec =

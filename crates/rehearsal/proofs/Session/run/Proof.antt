@@ -1,3 +1,7 @@
+use mathlib.Core.Path.{_≡_, _∙_}
+use mathlib.Core.Bool.{true, false}
+use borrow.Author.Tests.{not-true, not-false}
+use Rattle.rehearsal.specs.Session.{runOf}
 use borrow.Author.Needs.{needs}
 use Rattle.rehearsal.proofs.Session.run.Statement.{statement}
 use Rattle.rehearsal.proofs.Session.run.Tie as tie
@@ -11,11 +15,17 @@ bad-requires c κs = search needs
 
 -- src/lib.rt:227:13
 returns : tie.Need-returns
-returns c = ?
+unfolding runOf
+returns c =
+    let shut : c .before .before .before .args .self .opened ≡ false = not-true _ (c .before .if1 .taken) in
+    c .bad .ensures ∙ rw shut
 
 -- src/lib.rt:223:5
 returns-2 : tie.Need-returns-2
-returns-2 c = ?
+unfolding runOf
+returns-2 c =
+    let opened : c .before .before .args .self .opened ≡ true = not-false _ (c .if1 .left) in
+    rw opened
 
 pub run-spec : {M : Type 1} → statement M
 run-spec = tie.close (tie.spec bad-requires returns returns-2)

@@ -1,3 +1,5 @@
+use Rattle.rehearsal.specs.declared.Said.{Said}
+use Rattle.rehearsal.specs.Session.{withLeft}
 use borrow.Author.Needs.{needs}
 use Rattle.rehearsal.proofs.Session.stopped.Statement.{statement}
 use Rattle.rehearsal.proofs.Session.stopped.Tie as tie
@@ -11,7 +13,7 @@ number-of-requires c κs = search needs
 
 -- src/lib.rt:282:5
 returns : tie.Need-returns
-returns c = ?
+returns c = λ i. record { session = withLeft (c .before .args .self) 0; said = Said.Stopped (c .number-of .ensures i) }
 
 pub stopped-spec : {M : Type 1} → statement M
 stopped-spec = tie.close (tie.spec number-of-requires returns)

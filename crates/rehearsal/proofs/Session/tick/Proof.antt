@@ -1,3 +1,6 @@
+use mathlib.Core.Path.{_∙_}
+use Rattle.rehearsal.specs.Session.{tickOf}
+use Rattle.rehearsal.proofs.Turns.{told}
 use borrow.Author.Needs.{needs}
 use Rattle.rehearsal.proofs.Session.tick.Statement.{statement}
 use Rattle.rehearsal.proofs.Session.tick.Tie as tie
@@ -36,19 +39,23 @@ stopped-requires c κs = search needs
 
 -- src/lib.rt:253:5
 returns : tie.Need-returns
-returns c = ?
+unfolding tickOf
+returns c = told (c .before .before .before .before .before .before .args .self) (c .before .before .before .before .before .step .result) _ _ (c .before .before .before .before .before .step .ensures) (c .before .ran .given .1)
 
 -- src/lib.rt:253:5
 returns-2 : tie.Need-returns-2
-returns-2 c = ?
+unfolding tickOf
+returns-2 c = told (c .before .before .before .before .before .before .args .self) (c .before .before .before .before .before .step .result) _ _ (c .before .before .before .before .before .step .ensures) (c .before .ran2 .given .1)
 
 -- src/lib.rt:253:5
 returns-3 : tie.Need-returns-3
-returns-3 c = ?
+unfolding tickOf
+returns-3 c = told (c .before .before .before .before .before .args .self) (c .before .before .before .before .step .result) _ _ (c .before .before .before .before .step .ensures) (c .enum-told .given .1)
 
 -- src/lib.rt:253:5
 returns-4 : tie.Need-returns-4
-returns-4 c = ?
+unfolding tickOf
+returns-4 c = c .stopped .ensures ∙ told (c .before .before .before .before .before .before .before .args .self) (c .before .before .before .before .before .before .step .result) _ _ (c .before .before .before .before .before .before .step .ensures) (c .before .before .ran3 .given .1)
 
 pub tick-spec : {M : Type 1} → statement M
 tick-spec =

@@ -1,3 +1,7 @@
+use native.Mathlib.Omega.{arith}
+use lib.ListN.{length-append}
+use Rattle.words.proofs.Numbers.{digits-wide}
+use Rattle.words.proofs.Texts.{put-length, put-after}
 use borrow.Author.Needs.{needs}
 use Rattle.rehearsal.proofs.put.asked.Statement.{statement}
 use Rattle.rehearsal.proofs.put.asked.Tie as tie
@@ -24,7 +28,9 @@ slice-aggregate-verdict c = search needs
 
 -- src/put.rt:45:5
 verdict-requires : tie.Need-verdict-requires
-verdict-requires c κs = ?
+verdict-requires c κs =
+    let p = c .before .before .before .before .worded .ensures in
+    (omega (arith, digits-wide (c .before .before .before .before .before .before .before .before .before .args .number) (omega arith), simp length-append at (p .next), put-length p, c .before .before .before .before .before .before .before .before .before .pre), omega arith)
 
 -- src/put.rt:40:1
 same-length : tie.Need-same-length
@@ -32,7 +38,7 @@ same-length c = search needs
 
 -- src/put.rt:40:1
 returns : tie.Need-returns
-returns c = ?
+returns c = put-after (c .before .before .before .before .before .before .before .worded .ensures) (c .before .before .verdict .ensures)
 
 pub asked-spec : {M : Type 1} → statement M
 asked-spec =

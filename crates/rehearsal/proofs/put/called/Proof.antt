@@ -1,3 +1,4 @@
+use Rattle.words.proofs.Texts.{put-after}
 use borrow.Author.Needs.{needs}
 use Rattle.rehearsal.proofs.put.called.Statement.{statement}
 use Rattle.rehearsal.proofs.put.called.Tie as tie
@@ -24,7 +25,7 @@ same-length c = search needs
 
 -- src/put.rt:32:1
 returns : tie.Need-returns
-returns c = ?
+returns c = put-after (c .before .before .before .before .before .before .before .text .ensures) (c .before .before .verdict .ensures)
 
 pub called-spec : {M : Type 1} → statement M
 called-spec =

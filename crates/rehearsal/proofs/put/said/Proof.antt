@@ -1,3 +1,6 @@
+use native.Mathlib.Omega.{arith}
+use Rattle.words.proofs.Texts.{put-nothing}
+use Rattle.rehearsal.specs.Texts.{textOf}
 use borrow.Author.Needs.{needs}
 use Rattle.rehearsal.proofs.put.said.Statement.{statement}
 use Rattle.rehearsal.proofs.put.said.Tie as tie
@@ -134,7 +137,8 @@ worded-requires-3 c κs = search needs
 
 -- src/put.rt:58:1
 returns : tie.Need-returns
-returns c = ?
+unfolding textOf
+returns c = rw (c .enum-told .given .1) (put-nothing _ _ (omega (arith, c .before .before .before .pre)))
 
 -- src/put.rt:58:1
 same-length : tie.Need-same-length
@@ -142,7 +146,8 @@ same-length c = search needs
 
 -- src/put.rt:58:1
 returns-2 : tie.Need-returns-2
-returns-2 c = ?
+unfolding textOf
+returns-2 c = rw (c .before .before .before .before .before .before .before .said .given .1) (c .before .before .worded .ensures)
 
 -- src/put.rt:58:1
 same-length-2 : tie.Need-same-length-2
@@ -150,7 +155,8 @@ same-length-2 c = search needs
 
 -- src/put.rt:58:1
 returns-3 : tie.Need-returns-3
-returns-3 c = ?
+unfolding textOf
+returns-3 c = rw (c .before .before .before .before .before .before .said2 .given .1) (c .before .before .called .ensures)
 
 -- src/put.rt:58:1
 same-length-3 : tie.Need-same-length-3
@@ -158,7 +164,8 @@ same-length-3 c = search needs
 
 -- src/put.rt:58:1
 returns-4 : tie.Need-returns-4
-returns-4 c = ?
+unfolding textOf
+returns-4 c = rw (c .before .before .before .before .before .said3 .given .1) (c .before .before .asked .ensures)
 
 -- src/put.rt:58:1
 same-length-4 : tie.Need-same-length-4
@@ -166,7 +173,8 @@ same-length-4 c = search needs
 
 -- src/put.rt:58:1
 returns-5 : tie.Need-returns-5
-returns-5 c = ?
+unfolding textOf
+returns-5 c = rw (c .before .before .before .before .before .before .said4 .given .1) (c .before .before .called2 .ensures)
 
 -- src/put.rt:58:1
 same-length-5 : tie.Need-same-length-5
@@ -174,7 +182,8 @@ same-length-5 c = search needs
 
 -- src/put.rt:58:1
 returns-6 : tie.Need-returns-6
-returns-6 c = ?
+unfolding textOf
+returns-6 c = rw (c .before .before .before .before .before .before .said5 .given .1) (c .before .before .called3 .ensures)
 
 -- src/put.rt:58:1
 same-length-6 : tie.Need-same-length-6
@@ -182,7 +191,8 @@ same-length-6 c = search needs
 
 -- src/put.rt:58:1
 returns-7 : tie.Need-returns-7
-returns-7 c = ?
+unfolding textOf
+returns-7 c = rw (c .before .before .before .before .before .before .said6 .given .1) (c .before .before .ticked .ensures)
 
 -- src/put.rt:58:1
 same-length-7 : tie.Need-same-length-7
@@ -190,7 +200,8 @@ same-length-7 c = search needs
 
 -- src/put.rt:58:1
 returns-8 : tie.Need-returns-8
-returns-8 c = ?
+unfolding textOf
+returns-8 c = rw (c .before .before .before .before .before .before .said7 .given .1) (c .before .before .ticked2 .ensures)
 
 -- src/put.rt:58:1
 same-length-8 : tie.Need-same-length-8
@@ -198,7 +209,8 @@ same-length-8 c = search needs
 
 -- src/put.rt:58:1
 returns-9 : tie.Need-returns-9
-returns-9 c = ?
+unfolding textOf
+returns-9 c = rw (c .before .before .before .before .before .before .before .said8 .given .1) (c .before .before .worded2 .ensures)
 
 -- src/put.rt:58:1
 same-length-9 : tie.Need-same-length-9
@@ -206,7 +218,8 @@ same-length-9 c = search needs
 
 -- src/put.rt:58:1
 returns-10 : tie.Need-returns-10
-returns-10 c = ?
+unfolding textOf
+returns-10 c = rw (c .before .before .before .before .before .before .before .said9 .given .1) (c .before .before .worded3 .ensures)
 
 pub said-spec : {M : Type 1} → statement M
 said-spec =

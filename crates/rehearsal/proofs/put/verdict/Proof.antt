@@ -1,3 +1,4 @@
+use borrow.Author.Tests.{eq-eqb, ne-eqb}
 use borrow.Author.Needs.{needs}
 use Rattle.rehearsal.proofs.put.verdict.Statement.{statement}
 use Rattle.rehearsal.proofs.put.verdict.Tie as tie
@@ -16,7 +17,7 @@ same-length c = search needs
 
 -- src/put.rt:26:9
 returns : tie.Need-returns
-returns c = ?
+returns c = rw (eq-eqb _ _ (c .before .before .before .before .if1 .taken)) (c .before .before .text .ensures)
 
 -- src/put.rt:28:21
 slice-aggregate-worded : tie.Need-slice-aggregate-worded
@@ -36,7 +37,7 @@ same-length-2 c = search needs
 
 -- src/put.rt:21:1
 returns-2 : tie.Need-returns-2
-returns-2 c = ?
+returns-2 c = rw (ne-eqb _ _ (c .before .before .before .before .before .before .if1 .left)) (c .before .before .worded .ensures)
 
 pub verdict-spec : {M : Type 1} → statement M
 verdict-spec =

@@ -1,3 +1,6 @@
+use native.Mathlib.Omega.{arith}
+use Rattle.words.proofs.Numbers.{digits-wide}
+use Rattle.words.proofs.Texts.{put-length, put-after}
 use borrow.Author.Needs.{needs}
 use Rattle.rehearsal.proofs.put.worded.Statement.{statement}
 use Rattle.rehearsal.proofs.put.worded.Tie as tie
@@ -12,11 +15,16 @@ text-requires c κs = search needs
 
 -- src/put.rt:16:9
 number-requires : tie.Need-number-requires
-number-requires c κs = ?
+number-requires c κs =
+    let p = c .before .before .before .text .ensures in
+    omega (arith, digits-wide (c .before .before .before .before .before .before .before .before .args .n) (omega arith), p .next, put-length p, c .before .before .before .before .before .before .before .before .pre)
 
 -- src/put.rt:17:5
 text-requires-2 : tie.Need-text-requires-2
-text-requires-2 c κs = ?
+text-requires-2 c κs =
+    let p = c .before .before .before .before .before .before .before .text .ensures in
+    let q = c .before .before .before .number .ensures in
+    omega (arith, digits-wide (c .before .before .before .before .before .before .before .before .before .before .before .before .args .n) (omega arith), p .next, put-length p, q .next, put-length q, c .before .before .before .before .before .before .before .before .before .before .before .before .pre)
 
 -- src/put.rt:11:1
 same-length : tie.Need-same-length
@@ -24,7 +32,7 @@ same-length c = search needs
 
 -- src/put.rt:11:1
 returns : tie.Need-returns
-returns c = ?
+returns c = put-after (c .before .before .before .before .before .before .before .before .before .before .text .ensures) (put-after (c .before .before .before .before .before .before .number .ensures) (c .before .before .text2 .ensures))
 
 pub worded-spec : {M : Type 1} → statement M
 worded-spec =
