@@ -52,6 +52,11 @@ pub struct Place {
     pub lines: usize,
 }
 
+impl Place {
+    // The rehearsal's own limit on the bytes of its input.
+    pub const MOST: usize = 0x1_0000;
+}
+
 // A turn, and where it left the input.
 pub struct Read {
     pub turn: Turn,

@@ -7,6 +7,9 @@ ghost use Rattle.words.specs.Put.{Put};
 ghost use Rattle.words.specs.Numbers.{digits};
 ghost use Rattle.rehearsal.specs.Texts.{mostText, verdictText, callText, askText, tickText, textOf};
 
+// No answer is longer than this.
+pub const MOST: usize = 64;
+
 // A number between two words.
 fn worded(out: &mut [u8], at: usize, front: &[u8], n: u64, back: &[u8]) -> usize
     requires { ⌜ at + (length (now front) + (20 + length (now back))) ≤ length (now out) ⌝ }
