@@ -56,10 +56,7 @@ fn run(out: &mut [u8], running: Running) -> Running
         session = turn.session;
         at = tell(out, at, said);
     }
-    Running {
-        session,
-        at,
-    }
+    Running { session, at }
 }
 
 // One line and what it answers.
@@ -87,10 +84,7 @@ fn rehearse(input: &[u8]) {
     let mut out = [0u8; 4096];
     let mut going = Going {
         session: Session::begin(),
-        place: Place {
-            from: 0,
-            lines: 0,
-        },
+        place: Place { from: 0, lines: 0 },
         at: 0,
     };
     while going.place.from < input.len() {
