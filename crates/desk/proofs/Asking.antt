@@ -34,11 +34,11 @@ use Rattle.desk.specs.Asking.{askLines, requested, with-job, Admissible,
 use Rattle.desk.proofs.State.{in-order}
 use Rattle.desk.proofs.Calls.{few-feeds, few-jobs, feeds-back}
 
-yes-is-not-no : (x : Refusal) → Yes ≡ No x → ⊥
+pub yes-is-not-no : (x : Refusal) → Yes ≡ No x → ⊥
 yes-is-not-no x e = let z : _≡_ {A = ℕ} 0 1 = cc in omega arith
 
 -- where no line holds, each does not
-all-pass : (ls : List Line) → firstOf ls ≡ Yes → Each (λ l. l .holds ≡ false) ls
+pub all-pass : (ls : List Line) → firstOf ls ≡ Yes → Each (λ l. l .holds ≡ false) ls
 unfolding firstOf
 all-pass [] e = tt
 all-pass (l ∷ ls) e = go (l .holds) refl e (λ h. all-pass ls h)

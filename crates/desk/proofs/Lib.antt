@@ -3,3 +3,8 @@ pub mod Answers
 pub mod Opening
 pub mod Calls
 pub mod Asking
+pub mod Reachable
+pub mod Shadow
+pub mod Splits
+pub mod Promises
+pub mod Reports

@@ -3,3 +3,5 @@ pub mod Answers
 pub mod Opening
 pub mod Calls
 pub mod Asking
+pub mod Runs
+pub mod Kept

@@ -5,6 +5,7 @@ use feeds::Listed;
 use jobs::Found;
 use jobs::Job;
 use jobs::Table;
+use listing::Part;
 use listing::Runner;
 use serving::Named;
 use serving::Who;
@@ -379,5 +380,12 @@ impl Desk {
         ensures { λ r. ⌜ PartAt (labelOf (runnerOf self) (now («job_labels» .entry)) (now («feed_labels» .entry))) («job_labels» .entry) («feed_labels» .entry) r ⌝ }
     {
         listing::label(self.runner(), job_labels, feed_labels)
+    }
+
+    // The same place by value: which list holds it, from where, and how many bytes.
+    pub fn place(self, job_labels: &[u8], feed_labels: &[u8]) -> Part
+        ensures { λ r. ⌜ r ≡ labelOf (runnerOf self) (now («job_labels» .entry)) (now («feed_labels» .entry)) ⌝ }
+    {
+        listing::place(self.runner(), job_labels, feed_labels)
     }
 }

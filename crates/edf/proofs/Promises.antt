@@ -41,7 +41,7 @@ right-append [] ds b r = (tt, r)
 right-append (c ∷ cs) ds b r = let (x, y) = right-append cs ds (after c b) (r .1) in ((r .0, x), y)
 
 -- the feeds of an opening stay, whatever is called
-has-run : (cs : List Call) (b : Book) (f : Feed) → Has f b → Has f (run cs b)
+pub has-run : (cs : List Call) (b : Book) (f : Feed) → Has f b → Has f (run cs b)
 unfolding run after taking ending resting
 has-run [] b f h = h
 has-run (asked j true ∷ cs) b f h = has-run cs (taking j b) f h

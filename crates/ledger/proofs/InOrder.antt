@@ -48,7 +48,7 @@ none-before n k [] h = refl
 none-before n k (f ∷ fs) h =
     omega (arith, none-before n (suc k) fs (omega arith), eq-elim (λ e. e ≡ 0) n k (λ p. absurd (omega arith)) (λ p. refl))
 
-positions-once : (n k : ℕ) (fs : List Feed) → total (λ f. eq n (f .position)) (bookFeeds k fs) ≤ 1
+pub positions-once : (n k : ℕ) (fs : List Feed) → total (λ f. eq n (f .position)) (bookFeeds k fs) ≤ 1
 positions-once n k [] = omega arith
 positions-once n k (f ∷ fs) =
     eq-elim (λ e. e + total (λ g. eq n (g .position)) (bookFeeds (suc k) fs) ≤ 1) n k

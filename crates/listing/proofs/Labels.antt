@@ -12,7 +12,8 @@ use denote.Ref.{RefT}
 use borrow.Author.Tests.{eq-eqb, ne-eqb, eqb-true, eqb-false, le-leb, lt-leb}
 use Rattle.jobs.specs.declared.Found.the-variants.{At, Nothing}
 use Rattle.jobs.specs.Jobs.{pickFound}
-use Rattle.listing.specs.Labels.{recordNumber, recordFrom, whole, recordOf, Place, place, nowhere, jobPlace, feedPlace, PartAt}
+use Rattle.listing.specs.declared.Part.{Part}
+use Rattle.listing.specs.Labels.{recordNumber, recordFrom, whole, recordOf, place, nowhere, jobPlace, feedPlace, PartAt}
 
 -- the next record has the number
 pub record-here : (m : ℕ) (s : List ℕ) (n k : ℕ) → recordNumber s k ≡ n → recordFrom (suc m) s n k ≡ At k
@@ -78,7 +79,7 @@ pub record-nowhere : (s : List ℕ) (n k : ℕ) → recordOf s n ≡ Nothing →
 record-nowhere s n k e h = nothing-from (whole s) s n 0 e k (omega arith) (omega arith)
 
 -- a part of the first list, and of the second
-module _ (p : Place) (s f : RefT (List ℕ)) (a e g : ℕ) where
+module _ (p : Part) (s f : RefT (List ℕ)) (a e g : ℕ) where
   pub part-first : p ≡ place 1 a (e - a) → PartAt p s f (record { ptr = (s .ptr .0, a + s .ptr .1); name = g; now = take (e - a) (drop a (s .now)) })
   part-first h =
       subst (λ q. PartAt q s f (record { ptr = (s .ptr .0, a + s .ptr .1); name = g; now = take (e - a) (drop a (s .now)) })) (sym h)

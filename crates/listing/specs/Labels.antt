@@ -9,20 +9,16 @@ use lib.ListN.{length, getD, take, drop}
 use Rattle.jobs.specs.declared.Found.{Found}
 use Rattle.jobs.specs.declared.Found.the-variants.{At, Nothing}
 use Rattle.jobs.specs.Jobs.{pickFound}
+use Rattle.listing.specs.declared.Part.{Part}
 use Rattle.listing.specs.declared.Runner.{Runner}
 use Rattle.listing.specs.declared.Runner.the-variants.{Job, Feed, Idle}
 
 -- a part of one of the two lent lists: 1 the job labels, 2 the feed labels; where it begins, and how many bytes it has
-pub record Place : Type 0 where
-  pub list : ℕ
-  pub from : ℕ
-  pub size : ℕ
-
-abbrev pub place : ℕ → ℕ → ℕ → Place
+abbrev pub place : ℕ → ℕ → ℕ → Part
 place l f s = record { list = l; from = f; size = s }
 
 -- the empty beginning of the first list
-abbrev pub nowhere : Place
+abbrev pub nowhere : Part
 nowhere = place 1 0 0
 
 -- the number in the four bytes from here on, the highest first
@@ -47,16 +43,16 @@ abbrev pub recordOf : List ℕ → ℕ → Found
 recordOf s n = recordFrom (whole s) s n 0
 
 -- the label of a record stands behind its number
-abbrev pub jobPlace : Found → Place
+abbrev pub jobPlace : Found → Part
 jobPlace (At k) = place 1 (12 * k + 4) 8
 jobPlace Nothing = nowhere
 
 -- the position's bytes, positions from 1, if they are wholly there
-abbrev pub feedPlace : ℕ → ℕ → Place
+abbrev pub feedPlace : ℕ → ℕ → Part
 feedPlace p long = cond (leb 1 p && leb (8 * p) long) (place 2 (8 * (p - 1)) 8) nowhere
 
 -- the place of the runner's label; for idle, or where no label is there, the empty beginning of the first list
-abbrev pub labelOf : Runner → List ℕ → List ℕ → Place
+abbrev pub labelOf : Runner → List ℕ → List ℕ → Part
 labelOf (Job n) s f = jobPlace (recordOf s n)
 labelOf (Feed p) s f = feedPlace p (length f)
 labelOf Idle s f = nowhere
@@ -66,7 +62,7 @@ abbrev pub lent : ℕ → RefT (List ℕ) → RefT (List ℕ) → RefT (List ℕ
 lent l s f = cond (eqb l 1) s f
 
 -- a part that was handed back is this place: it holds the bytes that stand there, and lies there
-pub record PartAt (p : Place) (s f r : RefT (List ℕ)) : Type 0 where
+pub record PartAt (p : Part) (s f r : RefT (List ℕ)) : Type 0 where
   pub text : r .now ≡ take (p .size) (drop (p .from) (lent (p .list) s f .now))
   pub block : r .ptr .0 ≡ lent (p .list) s f .ptr .0
   pub offset : r .ptr .1 ≡ p .from + lent (p .list) s f .ptr .1

@@ -9,13 +9,21 @@ ghost use Prim.Native.Nat.{_+_, _*_, _≤_, _<_};
 ghost use lib.ListN.{length, take, drop};
 ghost use Rattle.jobs.specs.Jobs.{mostJobs, live, Kept};
 ghost use Rattle.listing.specs.Order.{goesFirst, aheadOf, firstAt, listOrder, wordsOf, words};
-ghost use Rattle.listing.specs.Labels.{bigEndian, recordOf, labelOf, PartAt};
+ghost use Rattle.listing.specs.Labels.{bigEndian, recordOf, feedPlace, labelOf, PartAt};
 
 // Whose label is wanted: a job by its number, a feed by its position, or nobody's.
 pub enum Runner {
     Job(u32),
     Feed(u32),
     Idle,
+}
+
+// A part of one of the two lent lists: 1 the job labels, 2 the feed labels; where it begins, and how many bytes it has.
+#[repr(C)]
+pub struct Part {
+    pub list: u32,
+    pub from: usize,
+    pub size: usize,
 }
 
 // The earlier deadline first, then the lower number.
@@ -112,6 +120,32 @@ fn record_of(number: u32, labels: &[u8]) -> Found
     Found::Nothing
 }
 
+// The place of a position's label in so many bytes.
+fn feed_place(position: u32, long: usize) -> Part
+    ensures { λ r. ⌜ r ≡ feedPlace position long ⌝ }
+{
+    if position < 1 {
+        return Part {
+            list: 1,
+            from: 0,
+            size: 0,
+        };
+    }
+    let from = 8 * (position as usize - 1);
+    if long < from + 8 {
+        return Part {
+            list: 1,
+            from: 0,
+            size: 0,
+        };
+    }
+    Part {
+        list: 2,
+        from,
+        size: 8,
+    }
+}
+
 // The runner's label, where it stands in the list that holds it; the empty beginning of the first list where there is none.
 pub fn label<'a>(runner: Runner, job_labels: &'a [u8], feed_labels: &'a [u8]) -> &'a [u8]
     ensures { λ r. ⌜ PartAt (labelOf runner (now («job_labels» .entry)) (now («feed_labels» .entry))) («job_labels» .entry) («feed_labels» .entry) r ⌝ }
@@ -139,5 +173,31 @@ pub fn label<'a>(runner: Runner, job_labels: &'a [u8], feed_labels: &'a [u8]) ->
         Runner::Idle => {
             return &job_labels[0..0];
         }
+    }
+}
+
+// The same place by value, for callers that cannot be lent a part.
+pub fn place(runner: Runner, job_labels: &[u8], feed_labels: &[u8]) -> Part
+    ensures { λ r. ⌜ r ≡ labelOf runner (now («job_labels» .entry)) (now («feed_labels» .entry)) ⌝ }
+{
+    match runner {
+        Runner::Job(number) => match record_of(number, job_labels) {
+            Found::At(k) => Part {
+                list: 1,
+                from: 12 * k + 4,
+                size: 8,
+            },
+            Found::Nothing => Part {
+                list: 1,
+                from: 0,
+                size: 0,
+            },
+        },
+        Runner::Feed(position) => feed_place(position, feed_labels.len()),
+        Runner::Idle => Part {
+            list: 1,
+            from: 0,
+            size: 0,
+        },
     }
 }

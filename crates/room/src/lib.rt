@@ -29,7 +29,7 @@ fn job_owes(job: Job, by: Instant) -> u64
     0
 }
 
-// What the jobs owe by an instant.
+// The customers' part of what is owed by an instant.
 fn jobs_owe(table: Table, by: Instant) -> u64
     requires { ⌜ (table .count ≤ mostJobs) × Each Modest (liveJobs table) ⌝ }
     ensures { λ r. ⌜ (r ≡ total (jobOwes (by .0)) (liveJobs table)) × (r ≤ mostJobs * mostJob) ⌝ }
@@ -64,7 +64,7 @@ fn feed_owes(feed: Feed, clock: Instant, by: Instant) -> u64
     feed.owes.0 + feed.work.0 * pieces
 }
 
-// What the feeds owe by an instant.
+// The printers' part of what is owed by an instant.
 fn feeds_owe(feeds: Feeds, clock: Instant, by: Instant) -> u64
     requires { ⌜ (feeds .count ≤ mostFeeds) × Each (FeedOrdered clock) (liveFeeds feeds) × Reach clock by ⌝ }
     ensures { λ r. ⌜ (r ≡ total (feedOwes (clock .0) (by .0)) (liveFeeds feeds)) × (r ≤ mostFeeds * mostOfFeed) ⌝ }
@@ -85,7 +85,6 @@ fn owed_by(clock: Instant, feeds: Feeds, table: Table, by: Instant) -> Length
     Length(jobs_owe(table, by) + feeds_owe(feeds, clock, by))
 }
 
-// The earlier of two instants.
 fn earlier(one: Instant, other: Instant) -> Instant
     ensures { λ r. ⌜ r ≡ instant (earlier (one .0) (other .0)) ⌝ }
 {
@@ -100,10 +99,10 @@ fn job_due_after(job: Job, by: Instant, till: Instant) -> Instant
     requires { ⌜ by .0 < till .0 ⌝ }
     ensures { λ r. ⌜ Until (λ D. jobOwes D job) (by .0) (till .0) (r .0) ⌝ }
 {
-    if job.deadline.0 <= by.0 {
-        return till;
+    if by.0 < job.deadline.0 {
+        return earlier(job.deadline, till);
     }
-    earlier(job.deadline, till)
+    till
 }
 
 // The next deadline of the jobs.
@@ -153,7 +152,6 @@ fn next_due(clock: Instant, feeds: Feeds, table: Table, by: Instant, till: Insta
     feeds_due_after(feeds, clock, by, jobs_due_after(table, by, till))
 }
 
-// The later of two instants.
 fn later(one: Instant, other: Instant) -> Instant
     ensures { λ r. ⌜ r ≡ instant (later (one .0) (other .0)) ⌝ }
 {
@@ -195,10 +193,12 @@ fn horizon(clock: Instant, feeds: Feeds, table: Table) -> Instant
     requires { ⌜ Ordered clock feeds table ⌝ }
     ensures { λ r. ⌜ r ≡ instant (horizonOf clock (liveFeeds feeds) (liveJobs table)) ⌝ }
 {
-    last_release(feeds, clock, last_deadline(table, clock)).plus(feeds.round())
+    let last = last_release(feeds, clock, last_deadline(table, clock));
+    last.plus(feeds.round())
 }
 
-// The walk: up from the clock over the instants at which something is due.
+// The walk: up from the clock over the instants at which something is due. In between nothing more is owed while the time
+// grows, so only there can there be too little of it.
 fn room_below(clock: Instant, feeds: Feeds, table: Table, horizon: Instant) -> bool
     requires { ⌜ Ordered clock feeds table × Reach clock horizon × (clock .0 ≤ horizon .0) ⌝ }
     ensures { λ r. ⌜ RoomSays r (horizon .0) (bookOf clock (liveFeeds feeds) (liveJobs table)) ⌝ }

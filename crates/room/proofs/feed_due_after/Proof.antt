@@ -26,7 +26,7 @@ returns c =
     let t = start .args .clock .0 in
     let feed = start .args .feed in
     rw (c .earlier .ensures)
-    (until-cut (λ D. feedOwes t D feed) _ _ _ (c .before .if1 .taken) (start .pre .2)
+    (until-cut (λ D. feedOwes t D feed) _ _ _ (omega arith) (start .pre .2)
     (λ E h k. feed-still-before t (start .args .by .0) feed (start .pre .0) E h (omega (arith, due (c .before .before .before .before), k))))
 
 less-requires : tie.Need-less-requires

@@ -6,17 +6,19 @@ use Rattle.room.proofs.Walk.{until-cut, job-still-past, job-still-befor
 use Rattle.room.proofs.job_due_after.Statement.{statement}
 use Rattle.room.proofs.job_due_after.Tie as tie
 
-returns : tie.Need-returns
-returns c = record { after = search needs; within = le-refl _; still = λ E h k. job-still-past (c .before .before .before .args .job) _ (c .if1 .taken) E h }
-
 earlier-requires : tie.Need-earlier-requires
 earlier-requires c κs = search needs
 
-returns-2 : tie.Need-returns-2
-returns-2 c =
+returns : tie.Need-returns
+returns c =
     let job = c .before .before .before .before .args .job in
     rw (c .earlier .ensures)
-    (until-cut (λ D. jobOwes D job) _ _ _ (c .before .if1 .left) (c .before .before .before .before .pre) (job-still-before job _))
+    (until-cut (λ D. jobOwes D job) _ _ _ (c .before .if1 .taken) (c .before .before .before .before .pre) (job-still-before job _))
+
+returns-2 : tie.Need-returns-2
+returns-2 c =
+    let job = c .before .before .before .args .job in
+    record { after = c .before .before .before .pre; within = le-refl _; still = λ E h k. job-still-past job _ (c .if1 .left) E h }
 
 pub job-due-after-spec : {M : Type 1} → statement M
-job-due-after-spec = tie.close (tie.spec returns earlier-requires returns-2)
+job-due-after-spec = tie.close (tie.spec earlier-requires returns returns-2)

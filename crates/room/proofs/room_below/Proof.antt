@@ -3,6 +3,7 @@ use mathlib.Core.Path.{sym, ap}
 use Prim.Native.Nat.{_-_, _≤_, _<_}
 use native.Mathlib.Nat.{le-refl}
 use native.Mathlib.Omega.{arith}
+use borrow.Author.Needs.{needs}
 use Rattle.lists.proofs.Tests.{false-not-true}
 use Rattle.feeds.specs.Feeds.{live as liveFeeds}
 use Rattle.jobs.specs.Jobs.{live as liveJobs}
@@ -29,7 +30,7 @@ loop-holds : tie.Need-loop-holds Inv-loop μ-loop
 loop-holds c = (le-refl _, c .pre .2, room-first (book c))
 
 less-requires : tie.Need-less-requires Inv-loop μ-loop
-less-requires c κs = c .before .before .before .loop .inv .0
+less-requires c κs = search needs
 
 -- the instant that is reached lies no further ahead than the horizon
 reach : (c : tie.At-loop Inv-loop μ-loop) → Reach (c .before .args .clock) (c .loop .by)
@@ -49,16 +50,16 @@ returns c =
       no = λ e near. room-stops (book start) (loop .by .0) (start .args .horizon .0)
           (book-in-order (start .args .clock) (liveFeeds (start .args .feeds)) (liveJobs (start .args .table)) (start .pre .0 .order))
           (loop .inv .0)
-          (c .before .before .before .before .before .if1 .taken)
+          (omega arith)
           short
           near;
     }
 
 next-due-requires : tie.Need-next-due-requires Inv-loop μ-loop
-next-due-requires c κs = (c .before .before .before .before .before .before .before .before .before .pre .0, reach (c .before .before .before .before .before .before .before .before), c .before .before .before .before .before .if1 .taken)
+next-due-requires c κs = (c .before .before .before .before .before .before .before .before .before .pre .0, reach (c .before .before .before .before .before .before .before .before), omega arith)
 
 loop-less : tie.Need-loop-less Inv-loop μ-loop
-loop-less c = omega (arith, c .next-due .ensures .after, c .next-due .ensures .within, c .before .before .before .before .before .before .if1 .taken)
+loop-less c = omega (arith, c .next-due .ensures .after, c .next-due .ensures .within)
 
 loop-again : tie.Need-loop-again Inv-loop μ-loop
 loop-again c =

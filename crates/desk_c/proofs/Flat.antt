@@ -1,0 +1,32 @@
+-- The flat answers: how many jobs can be listed, and that the contract of asking leaves one outcome.
+use mathlib.Core.Path.{_≡_, sym, ap, _∙_}
+use Prim.Native.Nat.{ℕ, _≤_}
+use native.Mathlib.Omega.{arith}
+use lib.ListN.{length, take, drop, take-append-drop, length-append}
+use Rattle.jobs.specs.Jobs.{mostJobs, live}
+use Rattle.desk.specs.declared.Desk.{Desk}
+use Rattle.desk.specs.declared.Verdict.{Verdict}
+use Rattle.desk.specs.declared.Verdict.the-variants.{Yes, No}
+use Rattle.desk.specs.declared.Counted.the-variants.{Jobs}
+use Rattle.desk.specs.Answers.{firstOf}
+use Rattle.desk.specs.Calls.{listLines, countIf, countedOf}
+use Rattle.desk.proofs.Asking.{asked-once}
+use Rattle.desk_c.specs.declared.Answer.{Answer}
+use Rattle.desk_c.specs.Flat.{flatAnswer, AskedFlat}
+
+counted-all : (v : Verdict) (m n : ℕ) → countIf v m ≡ Jobs n → m ≡ n
+counted-all Yes m n e = cc
+counted-all (No r) m n e = absurd (let z : _≡_ {A = ℕ} 0 1 = cc in omega arith)
+
+-- no more jobs are listed than there are places
+pub few-counted : (d : Desk) (size n : ℕ) → length (d .table .jobs) ≡ mostJobs → countedOf d size ≡ Jobs n → n ≤ mostJobs
+unfolding countedOf
+few-counted d size n long e =
+    let all : length (live (d .table)) ≡ n = counted-all (firstOf (listLines d size)) (length (live (d .table))) n e in
+    let parts = sym (length-append (take (d .table .count) (d .table .jobs)) (drop (d .table .count) (d .table .jobs))) ∙ ap length (take-append-drop (d .table .count) (d .table .jobs)) in
+    omega (arith, all, parts, long)
+
+-- TWO OUTCOMES THAT THE CONTRACT OF ASKING ALLOWS ARE THE SAME
+pub asked-flat-once : (d : Desk) (number work lead : ℕ) (r s : Answer) → AskedFlat d number work lead r → AskedFlat d number work lead s → r ≡ s
+asked-flat-once d number work lead r s a b =
+    a .flat ∙ ap flatAnswer (asked-once d number work lead (a .answer) (b .answer) (a .asked) (b .asked)) ∙ sym (b .flat)

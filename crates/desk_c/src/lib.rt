@@ -1,0 +1,189 @@
+// Every call of the desk for C and Rust: states and answers by value, each refusal as its number.
+// It must not know how any call is answered.
+use desk::Counted;
+use desk::Desk;
+use desk::Ran;
+use desk::Refusal;
+use desk::Verdict;
+ghost use mathlib.Core.Path.{_≡_};
+ghost use lib.ListN.{length};
+ghost use Rattle.listing.specs.Labels.{labelOf};
+ghost use Rattle.desk.specs.Answers.{numberOf, answerOf};
+ghost use Rattle.desk.specs.Opening.{openedOf};
+ghost use Rattle.desk.specs.Calls.{stepOf, endOf, restOf, countedOf, listedOf, runnerOf};
+ghost use Rattle.desk_c.specs.Flat.{flatAnswer, flatStep, flatCount, flatPart, AskedFlat};
+
+// The state that a call hands back, and 0 for yes or the refusal's number.
+#[repr(C)]
+pub struct Answer {
+    pub desk: Desk,
+    pub refusal: u32,
+}
+
+// The state that a step hands back and the refusal; whom it named, kind 0 idle, 1 a job by its number, 2 a feed by its
+// position; and what that piece of work still owes. All 0 where the step is refused.
+#[repr(C)]
+pub struct Stepped {
+    pub desk: Desk,
+    pub refusal: u32,
+    pub kind: u32,
+    pub number: u32,
+    pub owes: u64,
+}
+
+// How many jobs the list call wrote, 0 where it is refused.
+#[repr(C)]
+pub struct Listed {
+    pub refusal: u32,
+    pub count: u32,
+}
+
+// Where a label stands: list 1 the job labels, 2 the feed labels; list 1, from 0, size 0 where there is none.
+#[repr(C)]
+pub struct Label {
+    pub list: u32,
+    pub from: usize,
+    pub size: usize,
+}
+
+// The number that the rules give a refusal.
+fn number_of(refusal: Refusal) -> u32
+    ensures { λ r. ⌜ r ≡ numberOf refusal ⌝ }
+{
+    match refusal {
+        Refusal::NumberZero => 1,
+        Refusal::Outside => 2,
+        Refusal::PastLast => 3,
+        Refusal::NumberLive => 4,
+        Refusal::Full => 5,
+        Refusal::DoesNotFit => 6,
+        Refusal::NothingThere => 7,
+        Refusal::TooManyFeeds => 8,
+        Refusal::RoundTooLong => 9,
+        Refusal::TooMuchLoad => 10,
+        Refusal::ShortBuffer => 11,
+        Refusal::NotThree => 12,
+        Refusal::NotInOrder => 13,
+    }
+}
+
+fn flat_answer(answer: desk::Answer) -> Answer
+    ensures { λ r. ⌜ r ≡ flatAnswer answer ⌝ }
+{
+    let desk = answer.desk;
+    let verdict = answer.verdict;
+    match verdict {
+        Verdict::Yes => Answer { desk, refusal: 0 },
+        Verdict::No(refusal) => Answer {
+            desk,
+            refusal: number_of(refusal),
+        },
+    }
+}
+
+fn flat_step(stepped: desk::Stepped) -> Stepped
+    ensures { λ r. ⌜ r ≡ flatStep stepped ⌝ }
+{
+    let desk = stepped.desk;
+    let ran = stepped.ran;
+    match ran {
+        Ran::Job(number, owes) => Stepped {
+            desk,
+            refusal: 0,
+            kind: 1,
+            number,
+            owes: owes.0,
+        },
+        Ran::Feed(number, owes) => Stepped {
+            desk,
+            refusal: 0,
+            kind: 2,
+            number,
+            owes: owes.0,
+        },
+        Ran::Idle => Stepped {
+            desk,
+            refusal: 0,
+            kind: 0,
+            number: 0,
+            owes: 0,
+        },
+        Ran::No(refusal) => Stepped {
+            desk,
+            refusal: number_of(refusal),
+            kind: 0,
+            number: 0,
+            owes: 0,
+        },
+    }
+}
+
+// Opening with a list of feeds, three numbers a feed, at an instant.
+#[no_mangle]
+pub extern "C" fn desk_open(list: &[u32], start: u64) -> Answer
+    ensures { λ r. ⌜ r ≡ flatAnswer (openedOf (now (list .entry)) start) ⌝ }
+{
+    flat_answer(Desk::open(list, start))
+}
+
+// Asking for a job.
+#[no_mangle]
+pub extern "C" fn desk_ask(desk: Desk, number: u32, work: u32, lead: u32) -> Answer
+    ensures { λ r. ⌜ AskedFlat desk number work lead r ⌝ }
+{
+    flat_answer(desk.ask(number, work, lead))
+}
+
+// One step of one tick.
+#[no_mangle]
+pub extern "C" fn desk_step(desk: Desk) -> Stepped
+    ensures { λ r. ⌜ r ≡ flatStep (stepOf desk) ⌝ }
+{
+    flat_step(desk.step())
+}
+
+// Ending a job before its time.
+#[no_mangle]
+pub extern "C" fn desk_end(desk: Desk, number: u32) -> Answer
+    ensures { λ r. ⌜ r ≡ flatAnswer (endOf desk number) ⌝ }
+{
+    flat_answer(desk.end(number))
+}
+
+// Resting a feed's current piece.
+#[no_mangle]
+pub extern "C" fn desk_rest(desk: Desk, position: u32) -> Answer
+    ensures { λ r. ⌜ r ≡ flatAnswer (restOf desk position) ⌝ }
+{
+    flat_answer(desk.rest(position))
+}
+
+// The live jobs into the front of a lent buffer.
+#[no_mangle]
+pub extern "C" fn desk_list(desk: Desk, buffer: &mut [u64]) -> Listed
+    ensures { λ r. ⌜ (r ≡ flatCount (countedOf desk (length (now (buffer .entry))))) × (now (buffer .exit) ≡ listedOf desk (now (buffer .entry))) ⌝ }
+{
+    match desk.list(buffer) {
+        Counted::Jobs(count) => Listed {
+            refusal: 0,
+            count: count as u32,
+        },
+        Counted::No(refusal) => Listed {
+            refusal: number_of(refusal),
+            count: 0,
+        },
+    }
+}
+
+// Where the label of the one that runs stands in the lent lists.
+#[no_mangle]
+pub extern "C" fn desk_label(desk: Desk, jobs: &[u8], feeds: &[u8]) -> Label
+    ensures { λ r. ⌜ r ≡ flatPart (labelOf (runnerOf desk) (now (jobs .entry)) (now (feeds .entry))) ⌝ }
+{
+    let part = desk.place(jobs, feeds);
+    Label {
+        list: part.list,
+        from: part.from,
+        size: part.size,
+    }
+}

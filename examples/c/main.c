@@ -1,0 +1,71 @@
+/* A desk from C: opens with two feeds, asks, rests, steps and lists. */
+#include "desk.h"
+
+#include <stdio.h>
+
+static Desk asked(Desk desk, uint32_t number, uint32_t work, uint32_t lead) {
+    DeskAnswer answer = desk_ask(desk, number, work, lead);
+    if (answer.refusal == DESK_YES)
+        printf("job %u: yes\n", number);
+    else
+        printf("job %u: no %u\n", number, answer.refusal);
+    return answer.desk;
+}
+
+static Desk stepped(Desk desk) {
+    static const char *const kinds[] = {"idle", "job", "feed"};
+    DeskStepped step = desk_step(desk);
+    if (step.refusal != DESK_YES)
+        printf("no step: %u\n", step.refusal);
+    else if (step.kind == DESK_IDLE)
+        printf("tick %llu: idle\n", (unsigned long long)desk.clock);
+    else
+        printf("tick %llu: %s %u, owes %llu\n", (unsigned long long)desk.clock, kinds[step.kind], step.number,
+               (unsigned long long)step.owes);
+    return step.desk;
+}
+
+static void listed(Desk desk) {
+    uint64_t buffer[3 * DESK_JOBS];
+    DeskListed list = desk_list(desk, buffer, 3 * DESK_JOBS);
+    for (uint32_t i = 0; i < list.count; i++)
+        printf("live: job %llu owes %llu by %llu\n", (unsigned long long)buffer[3 * i],
+               (unsigned long long)buffer[3 * i + 1], (unsigned long long)buffer[3 * i + 2]);
+}
+
+static void labelled(Desk desk) {
+    static const uint8_t jobs[] = "\0\0\0\1pelvis  \0\0\0\7skull   ";
+    static const uint8_t feeds[] = "printer1printer2";
+    DeskLabel label = desk_label(desk, jobs, sizeof jobs - 1, feeds, sizeof feeds - 1);
+    const uint8_t *list = label.list == 1 ? jobs : feeds;
+    printf("next: \"%.*s\"\n", (int)label.length, (const char *)list + label.from);
+}
+
+int main(void) {
+    const uint32_t feeds[] = {4, 1, 0, 6, 2, 0};
+    DeskAnswer opened = desk_open(feeds, 6, 0);
+    printf("open: %u\n", opened.refusal);
+    Desk desk = opened.desk;
+    desk = asked(desk, 1, 3, 6);
+    desk = asked(desk, 2, 1, 6);
+    desk = asked(desk, 7, 1, 12);
+    listed(desk);
+    labelled(desk);
+    for (int i = 0; i < 4; i++)
+        desk = stepped(desk);
+    labelled(desk);
+    DeskAnswer rested = desk_rest(desk, 2);
+    printf("rest feed 2: %u\n", rested.refusal);
+    desk = rested.desk;
+    desk = asked(desk, 2, 1, 6);
+    DeskAnswer ended = desk_end(desk, 7);
+    printf("end job 7: %u\n", ended.refusal);
+    desk = ended.desk;
+    listed(desk);
+    for (int i = 0; i < 4; i++)
+        desk = stepped(desk);
+    desk.clock = desk.clock + 1000000;
+    desk.table.count = 65;
+    desk = stepped(desk);
+    return 0;
+}

@@ -1,0 +1,67 @@
+//! A desk from Rust: the same calls as the example in C, with the same output.
+
+mod desk;
+
+use desk::Desk;
+
+fn asked(desk: Desk, number: u32, work: u32, lead: u32) -> Desk {
+    let answer = desk.ask(number, work, lead);
+    match answer.refusal {
+        0 => println!("job {number}: yes"),
+        refusal => println!("job {number}: no {refusal}"),
+    }
+    answer.desk
+}
+
+fn stepped(desk: Desk) -> Desk {
+    let step = desk.step();
+    let (number, owes) = (step.number, step.owes);
+    match (step.refusal, step.kind) {
+        (0, 0) => println!("tick {}: idle", desk.clock),
+        (0, 1) => println!("tick {}: job {number}, owes {owes}", desk.clock),
+        (0, _) => println!("tick {}: feed {number}, owes {owes}", desk.clock),
+        (refusal, _) => println!("no step: {refusal}"),
+    }
+    step.desk
+}
+
+fn listed(desk: Desk) {
+    let mut buffer = [0; 3 * 64];
+    let list = desk.list(&mut buffer);
+    for job in buffer.chunks(3).take(list.count as usize) {
+        println!("live: job {} owes {} by {}", job[0], job[1], job[2]);
+    }
+}
+
+fn labelled(desk: Desk) {
+    let label = desk.label(b"\0\0\0\x01pelvis  \0\0\0\x07skull   ", b"printer1printer2");
+    println!("next: \"{}\"", String::from_utf8_lossy(label));
+}
+
+fn main() {
+    let opened = desk::open(&[4, 1, 0, 6, 2, 0], 0);
+    println!("open: {}", opened.refusal);
+    let mut desk = opened.desk;
+    desk = asked(desk, 1, 3, 6);
+    desk = asked(desk, 2, 1, 6);
+    desk = asked(desk, 7, 1, 12);
+    listed(desk);
+    labelled(desk);
+    for _ in 0..4 {
+        desk = stepped(desk);
+    }
+    labelled(desk);
+    let rested = desk.rest(2);
+    println!("rest feed 2: {}", rested.refusal);
+    desk = asked(rested.desk, 2, 1, 6);
+    let ended = desk.end(7);
+    println!("end job 7: {}", ended.refusal);
+    desk = ended.desk;
+    listed(desk);
+    for _ in 0..4 {
+        desk = stepped(desk);
+    }
+    desk.clock += 1_000_000;
+    desk.table.count = 65;
+    stepped(desk);
+}

@@ -1,0 +1,93 @@
+/* The far side: linked with the library, it answers the calls that come in on standard input. */
+#include "bridge.h"
+
+#include <stdio.h>
+#include <stdlib.h>
+
+static void get(void *to, size_t size) {
+    if (size > 0 && fread(to, 1, size, stdin) != size)
+        exit(0);
+}
+
+static void put(const void *from, size_t size) {
+    if (size > 0 && fwrite(from, 1, size, stdout) != size)
+        exit(1);
+}
+
+/* A list of the length that was lent, and no byte more, so that a read past its end is not a read of the list. */
+static void *get_list(size_t *size) {
+    uint64_t bytes;
+    get(&bytes, sizeof bytes);
+    *size = bytes;
+    void *list = malloc(bytes > 0 ? bytes : 1);
+    if (list == NULL)
+        exit(1);
+    get(list, bytes);
+    return list;
+}
+
+static uint32_t get_number(void) {
+    uint32_t number;
+    get(&number, sizeof number);
+    return number;
+}
+
+static void opening(void) {
+    size_t size;
+    uint32_t *list = get_list(&size);
+    uint64_t start;
+    get(&start, sizeof start);
+    DeskAnswer answer = desk_open(list, size / sizeof *list, start);
+    put(&answer, sizeof answer);
+    free(list);
+}
+
+static void asking(Desk desk) {
+    uint32_t number = get_number(), work = get_number(), lead = get_number();
+    DeskAnswer answer = desk_ask(desk, number, work, lead);
+    put(&answer, sizeof answer);
+}
+
+static void stepping(Desk desk) {
+    DeskStepped answer = desk_step(desk);
+    put(&answer, sizeof answer);
+}
+
+static void listing(Desk desk) {
+    size_t size;
+    uint64_t *buffer = get_list(&size);
+    DeskListed answer = desk_list(desk, buffer, size / sizeof *buffer);
+    put(&answer, sizeof answer);
+    put(buffer, size);
+    free(buffer);
+}
+
+static void labelling(Desk desk) {
+    size_t jobs_size, feeds_size;
+    uint8_t *jobs = get_list(&jobs_size), *feeds = get_list(&feeds_size);
+    DeskLabel answer = desk_label(desk, jobs, jobs_size, feeds, feeds_size);
+    put(&answer, sizeof answer);
+    free(jobs);
+    free(feeds);
+}
+
+int main(void) {
+    for (;;) {
+        uint32_t call = get_number();
+        Desk desk;
+        DeskAnswer answer;
+        if (call != CALL_OPEN)
+            get(&desk, sizeof desk);
+        switch (call) {
+        case CALL_OPEN: opening(); break;
+        case CALL_ASK: asking(desk); break;
+        case CALL_STEP: stepping(desk); break;
+        case CALL_END: answer = desk_end(desk, get_number()); put(&answer, sizeof answer); break;
+        case CALL_REST: answer = desk_rest(desk, get_number()); put(&answer, sizeof answer); break;
+        case CALL_LIST: listing(desk); break;
+        case CALL_LABEL: labelling(desk); break;
+        default: exit(1);
+        }
+        fflush(stdout);
+    }
+}

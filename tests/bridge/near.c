@@ -1,0 +1,126 @@
+/* The near side: the functions of desk.h for this machine, each of which hands its call to the far side. */
+#include "bridge.h"
+
+#include <stdio.h>
+#include <stdlib.h>
+#include <unistd.h>
+
+static FILE *to, *from;
+
+static void fail(const char *what) {
+    fprintf(stderr, "bridge: %s\n", what);
+    abort();
+}
+
+/* Starts the far side, at the first call. */
+static void start(void) {
+    int there[2], back[2];
+    if (pipe(there) != 0 || pipe(back) != 0)
+        fail("no pipe");
+    pid_t child = fork();
+    if (child < 0)
+        fail("no process");
+    if (child == 0) {
+        dup2(there[0], 0);
+        dup2(back[1], 1);
+        close(there[1]);
+        close(back[0]);
+        execl("/bin/sh", "sh", "-c", FAR_COMMAND, (char *)NULL);
+        _exit(127);
+    }
+    close(there[0]);
+    close(back[1]);
+    to = fdopen(there[1], "wb");
+    from = fdopen(back[0], "rb");
+    if (to == NULL || from == NULL)
+        fail("no stream");
+}
+
+static void put(const void *bytes, size_t size) {
+    if (size > 0 && fwrite(bytes, 1, size, to) != size)
+        fail("the far side takes no call");
+}
+
+static void put_list(const void *list, size_t size) {
+    uint64_t bytes = size;
+    put(&bytes, sizeof bytes);
+    put(list, size);
+}
+
+static void get(void *bytes, size_t size) {
+    if (size > 0 && fread(bytes, 1, size, from) != size)
+        fail("the far side gives no answer");
+}
+
+static void call(uint32_t number, const Desk *desk) {
+    if (to == NULL)
+        start();
+    put(&number, sizeof number);
+    if (desk != NULL)
+        put(desk, sizeof *desk);
+}
+
+static void answer(void *bytes, size_t size) {
+    fflush(to);
+    get(bytes, size);
+}
+
+DeskAnswer desk_open(const uint32_t *list, size_t length, uint64_t start) {
+    DeskAnswer opened;
+    call(CALL_OPEN, NULL);
+    put_list(list, length * sizeof *list);
+    put(&start, sizeof start);
+    answer(&opened, sizeof opened);
+    return opened;
+}
+
+DeskAnswer desk_ask(Desk desk, uint32_t number, uint32_t work, uint32_t lead) {
+    DeskAnswer asked;
+    call(CALL_ASK, &desk);
+    put(&number, sizeof number);
+    put(&work, sizeof work);
+    put(&lead, sizeof lead);
+    answer(&asked, sizeof asked);
+    return asked;
+}
+
+DeskStepped desk_step(Desk desk) {
+    DeskStepped stepped;
+    call(CALL_STEP, &desk);
+    answer(&stepped, sizeof stepped);
+    return stepped;
+}
+
+static DeskAnswer with_number(uint32_t which, const Desk *desk, uint32_t number) {
+    DeskAnswer given;
+    call(which, desk);
+    put(&number, sizeof number);
+    answer(&given, sizeof given);
+    return given;
+}
+
+DeskAnswer desk_end(Desk desk, uint32_t number) {
+    return with_number(CALL_END, &desk, number);
+}
+
+DeskAnswer desk_rest(Desk desk, uint32_t position) {
+    return with_number(CALL_REST, &desk, position);
+}
+
+DeskListed desk_list(Desk desk, uint64_t *buffer, size_t length) {
+    DeskListed listed;
+    call(CALL_LIST, &desk);
+    put_list(buffer, length * sizeof *buffer);
+    answer(&listed, sizeof listed);
+    get(buffer, length * sizeof *buffer);
+    return listed;
+}
+
+DeskLabel desk_label(Desk desk, const uint8_t *jobs, size_t jobs_length, const uint8_t *feeds, size_t feeds_length) {
+    DeskLabel label;
+    call(CALL_LABEL, &desk);
+    put_list(jobs, jobs_length);
+    put_list(feeds, feeds_length);
+    answer(&label, sizeof label);
+    return label;
+}
