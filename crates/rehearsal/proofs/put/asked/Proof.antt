@@ -1,0 +1,53 @@
+use native.Mathlib.Omega.{arith}
+use lib.ListN.{length-append}
+use Rattle.words.proofs.Numbers.{digits-wide}
+use Rattle.words.proofs.Texts.{put-length, put-after}
+use borrow.Author.Needs.{needs}
+use Rattle.rehearsal.proofs.put.asked.Statement.{statement}
+use Rattle.rehearsal.proofs.put.asked.Tie as tie
+use Rattle.rehearsal.proofs.put.asked.Reads as reads
+use Rattle.rehearsal.proofs.put.asked.Lts as lts
+use Rattle.rehearsal.proofs.put.verdict.Reads as verdict-reads
+use Rattle.rehearsal.proofs.put.worded.Reads as worded-reads
+
+-- src/put.rt:44:29
+slice-aggregate-worded : tie.Need-slice-aggregate-worded
+slice-aggregate-worded c = search needs
+
+-- src/put.rt:44:53
+slice-aggregate-worded-2 : tie.Need-slice-aggregate-worded-2
+slice-aggregate-worded-2 c = search needs
+
+-- src/put.rt:44:9
+worded-requires : tie.Need-worded-requires
+worded-requires c κs = search needs
+
+-- src/put.rt:45:21
+slice-aggregate-verdict : tie.Need-slice-aggregate-verdict
+slice-aggregate-verdict c = search needs
+
+-- src/put.rt:45:5
+verdict-requires : tie.Need-verdict-requires
+verdict-requires c κs =
+    let p = c .before .before .before .before .worded .ensures in
+    (omega (arith, digits-wide (c .before .before .before .before .before .before .before .before .before .args .number) (omega arith), simp length-append at (p .next), put-length p, c .before .before .before .before .before .before .before .before .before .pre), omega arith)
+
+-- src/put.rt:40:1
+same-length : tie.Need-same-length
+same-length c = search needs
+
+-- src/put.rt:40:1
+returns : tie.Need-returns
+returns c = put-after (c .before .before .before .before .before .before .before .worded .ensures) (c .before .before .verdict .ensures)
+
+pub asked-spec : {M : Type 1} → statement M
+asked-spec =
+    tie.close
+    (tie.spec
+    slice-aggregate-worded
+    slice-aggregate-worded-2
+    worded-requires
+    slice-aggregate-verdict
+    verdict-requires
+    same-length
+    returns)

@@ -1,0 +1,53 @@
+use borrow.Author.Tests.{eq-eqb, ne-eqb}
+use borrow.Author.Needs.{needs}
+use Rattle.rehearsal.proofs.put.verdict.Statement.{statement}
+use Rattle.rehearsal.proofs.put.verdict.Tie as tie
+use Rattle.rehearsal.proofs.put.verdict.Reads as reads
+use Rattle.rehearsal.proofs.put.verdict.Lts as lts
+use Rattle.rehearsal.proofs.put.worded.Reads as worded-reads
+use Rattle.words.proofs.put.text.Reads as text-reads
+
+-- src/put.rt:26:9
+text-requires : tie.Need-text-requires
+text-requires c κs = search needs
+
+-- src/put.rt:26:9
+same-length : tie.Need-same-length
+same-length c = search needs
+
+-- src/put.rt:26:9
+returns : tie.Need-returns
+returns c = rw (eq-eqb _ _ (c .before .before .before .before .if1 .taken)) (c .before .before .text .ensures)
+
+-- src/put.rt:28:21
+slice-aggregate-worded : tie.Need-slice-aggregate-worded
+slice-aggregate-worded c = search needs
+
+-- src/put.rt:28:45
+slice-aggregate-worded-2 : tie.Need-slice-aggregate-worded-2
+slice-aggregate-worded-2 c = search needs
+
+-- src/put.rt:28:5
+worded-requires : tie.Need-worded-requires
+worded-requires c κs = search needs
+
+-- src/put.rt:21:1
+same-length-2 : tie.Need-same-length-2
+same-length-2 c = search needs
+
+-- src/put.rt:21:1
+returns-2 : tie.Need-returns-2
+returns-2 c = rw (ne-eqb _ _ (c .before .before .before .before .before .before .if1 .left)) (c .before .before .worded .ensures)
+
+pub verdict-spec : {M : Type 1} → statement M
+verdict-spec =
+    tie.close
+    (tie.spec
+    text-requires
+    same-length
+    returns
+    slice-aggregate-worded
+    slice-aggregate-worded-2
+    worded-requires
+    same-length-2
+    returns-2)

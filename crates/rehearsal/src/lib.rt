@@ -1,0 +1,325 @@
+// The rehearsal: a session over the desk that hears one line after another and tells what each answers.
+// It must not know input and output: the text is lent to it, and so is the buffer that its answers go into.
+use desk::Desk;
+use desk::Ran;
+use desk::Refusal;
+use desk::Verdict;
+use words::Found;
+use words::Line;
+ghost use mathlib.Core.Path.{_≡_};
+ghost use Prim.Native.Nat.{_≤_, _<_, _^_};
+ghost use lib.ListN.{length};
+ghost use Rattle.desk.specs.Answers.{numberOf as numberFor, answerOf as answerFor};
+ghost use Rattle.rehearsal.specs.Session.{begun, badOf, feedOf, goOf, endOf, restOf, runOf, tickOf, stoppedOf};
+ghost use Rattle.rehearsal.specs.Hearing.{AskOf, Heard, Answers};
+
+pub mod put;
+
+// What an answer says; a refusal is told by its number, and 0 is a yes.
+pub enum Said {
+    Nothing,
+    Bad(usize),
+    Go(u32),
+    Ask(u32, u32),
+    End(u32),
+    Rest(u32),
+    Job(u64, u32),
+    Feed(u64, u32),
+    Idle(u64),
+    Stopped(u32),
+}
+
+// What was heard so far: the desk, the numbers of the feed lines, whether the desk is open, whether the rehearsal is
+// over, and how many ticks of a run are left.
+pub struct Session {
+    pub desk: Desk,
+    pub list: [u32; 51],
+    pub feeds: usize,
+    pub opened: bool,
+    pub over: bool,
+    pub left: u32,
+}
+
+// The session after a line or a tick, and what is said.
+pub struct Turn {
+    pub session: Session,
+    pub said: Said,
+}
+
+// Where in the input a session stands: the place of the next byte, and how many lines were read before it.
+pub struct Place {
+    pub from: usize,
+    pub lines: usize,
+}
+
+impl Place {
+    // The rehearsal's own limit on the bytes of its input.
+    pub const MOST: usize = 0x1_0000;
+}
+
+// A turn, and where it left the input.
+pub struct Read {
+    pub turn: Turn,
+    pub place: Place,
+}
+
+// The number of a refusal.
+fn number_of(refusal: Refusal) -> u32
+    ensures { λ r. ⌜ r ≡ numberFor refusal ⌝ }
+{
+    match refusal {
+        Refusal::NumberZero => 1,
+        Refusal::Outside => 2,
+        Refusal::PastLast => 3,
+        Refusal::NumberLive => 4,
+        Refusal::Full => 5,
+        Refusal::DoesNotFit => 6,
+        Refusal::NothingThere => 7,
+        Refusal::TooManyFeeds => 8,
+        Refusal::RoundTooLong => 9,
+        Refusal::TooMuchLoad => 10,
+        Refusal::ShortBuffer => 11,
+        Refusal::NotThree => 12,
+        Refusal::NotInOrder => 13,
+    }
+}
+
+// 0 for a yes, else the refusal's number.
+fn answer_of(verdict: Verdict) -> u32
+    ensures { λ r. ⌜ r ≡ answerFor verdict ⌝ }
+{
+    match verdict {
+        Verdict::Yes => 0,
+        Verdict::No(refusal) => number_of(refusal),
+    }
+}
+
+impl Session {
+    // The rehearsal's own limit on feed lines, one more than a desk takes.
+    const FEEDS: usize = 17;
+
+    // A session that has heard nothing.
+    pub fn begin() -> Session
+        ensures { λ r. ⌜ r ≡ begun ⌝ }
+    {
+        Session {
+            desk: Desk::none(),
+            list: [0; 51],
+            feeds: 0,
+            opened: false,
+            over: false,
+            left: 0,
+        }
+    }
+
+    // A bad line ends the rehearsal.
+    fn bad(self, line: usize) -> Turn
+        ensures { λ r. ⌜ r ≡ badOf self line ⌝ }
+    {
+        let mut session = self;
+        session.over = true;
+        Turn {
+            session,
+            said: Said::Bad(line),
+        }
+    }
+
+    fn feed(self, line: usize, period: u32, work: u32, offset: u32) -> Turn
+        ensures { λ r. ⌜ r ≡ feedOf self line period work offset ⌝ }
+    {
+        if self.opened {
+            return self.bad(line);
+        }
+        if Session::FEEDS <= self.feeds {
+            return self.bad(line);
+        }
+        let at = 3 * self.feeds;
+        let mut session = self;
+        session.list[at] = period;
+        session.list[at + 1] = work;
+        session.list[at + 2] = offset;
+        session.feeds = self.feeds + 1;
+        Turn {
+            session,
+            said: Said::Nothing,
+        }
+    }
+
+    fn go(self, line: usize, start: u64) -> Turn
+        ensures { λ r. ⌜ r ≡ goOf self line start ⌝ }
+    {
+        if self.opened {
+            return self.bad(line);
+        }
+        if Session::FEEDS < self.feeds {
+            return self.bad(line);
+        }
+        let list = self.list;
+        let numbers = 3 * self.feeds;
+        let answer = Desk::open(&list[..numbers], start);
+        let desk = answer.desk;
+        let verdict = answer.verdict;
+        let number = answer_of(verdict);
+        let mut session = self;
+        session.desk = desk;
+        session.opened = true;
+        session.over = number != 0;
+        Turn {
+            session,
+            said: Said::Go(number),
+        }
+    }
+
+    fn ask(self, line: usize, number: u32, work: u32, lead: u32) -> Turn
+        ensures { λ r. ⌜ AskOf self line number work lead r ⌝ }
+    {
+        if !self.opened {
+            return self.bad(line);
+        }
+        let answer = self.desk.ask(number, work, lead);
+        let desk = answer.desk;
+        let verdict = answer.verdict;
+        let refusal = answer_of(verdict);
+        let mut session = self;
+        session.desk = desk;
+        Turn {
+            session,
+            said: Said::Ask(number, refusal),
+        }
+    }
+
+    fn end(self, line: usize, number: u32) -> Turn
+        ensures { λ r. ⌜ r ≡ endOf self line number ⌝ }
+    {
+        if !self.opened {
+            return self.bad(line);
+        }
+        let answer = self.desk.end(number);
+        let desk = answer.desk;
+        let verdict = answer.verdict;
+        let refusal = answer_of(verdict);
+        let mut session = self;
+        session.desk = desk;
+        Turn {
+            session,
+            said: Said::End(refusal),
+        }
+    }
+
+    fn rest(self, line: usize, position: u32) -> Turn
+        ensures { λ r. ⌜ r ≡ restOf self line position ⌝ }
+    {
+        if !self.opened {
+            return self.bad(line);
+        }
+        let answer = self.desk.rest(position);
+        let desk = answer.desk;
+        let verdict = answer.verdict;
+        let refusal = answer_of(verdict);
+        let mut session = self;
+        session.desk = desk;
+        Turn {
+            session,
+            said: Said::Rest(refusal),
+        }
+    }
+
+    // A run is only begun here: its ticks are turns of their own.
+    fn run(self, line: usize, ticks: u32) -> Turn
+        ensures { λ r. ⌜ r ≡ runOf self line ticks ⌝ }
+    {
+        if !self.opened {
+            return self.bad(line);
+        }
+        let mut session = self;
+        session.left = ticks;
+        Turn {
+            session,
+            said: Said::Nothing,
+        }
+    }
+
+    // What a line answers; `line` is its number, counted from 1.
+    pub fn hear(self, line: usize, means: Line) -> Turn
+        ensures { λ r. ⌜ Heard self line means r ⌝ }
+    {
+        match means {
+            Line::Feed(period, work, offset) => self.feed(line, period, work, offset),
+            Line::Go(start) => self.go(line, start),
+            Line::Ask(number, work, lead) => self.ask(line, number, work, lead),
+            Line::End(number) => self.end(line, number),
+            Line::Rest(position) => self.rest(line, position),
+            Line::Run(ticks) => self.run(line, ticks),
+            Line::Bad => self.bad(line),
+        }
+    }
+
+    // One tick of the run that is under way.
+    pub fn tick(self) -> Turn
+        requires { ⌜ 0 < self .left ⌝ }
+        ensures { λ r. ⌜ r ≡ tickOf self ⌝ }
+    {
+        let instant = self.desk.clock.0;
+        let stepped = self.desk.step();
+        let desk = stepped.desk;
+        let ran = stepped.ran;
+        let mut session = self;
+        session.desk = desk;
+        session.left = self.left - 1;
+        match ran {
+            Ran::Job(number, _) => Turn {
+                session,
+                said: Said::Job(instant, number),
+            },
+            Ran::Feed(position, _) => Turn {
+                session,
+                said: Said::Feed(instant, position),
+            },
+            Ran::Idle => Turn {
+                session,
+                said: Said::Idle(instant),
+            },
+            Ran::No(refusal) => session.stopped(refusal),
+        }
+    }
+
+    // A refused step ends its run.
+    fn stopped(self, refusal: Refusal) -> Turn
+        ensures { λ r. ⌜ r ≡ stoppedOf self refusal ⌝ }
+    {
+        let mut session = self;
+        session.left = 0;
+        Turn {
+            session,
+            said: Said::Stopped(number_of(refusal)),
+        }
+    }
+
+    // What the next line of the input answers; a last line without its newline is bad.
+    pub fn read(self, input: &[u8], place: Place) -> Read
+        requires { ⌜ (place .lines ≤ place .from) × (place .from < length (now input)) ⌝ }
+        ensures { λ r. ⌜ Answers self (now (input .entry)) place r ⌝ }
+    {
+        let from = place.from;
+        let line = place.lines + 1;
+        match words::line_end(input, from) {
+            Found::At(end) => {
+                let next = end + 1;
+                Read {
+                    turn: self.hear(line, words::read_line(&input[from..end])),
+                    place: Place {
+                        from: next,
+                        lines: line,
+                    },
+                }
+            }
+            Found::Nothing => Read {
+                turn: self.bad(line),
+                place: Place {
+                    from: input.len(),
+                    lines: line,
+                },
+            },
+        }
+    }
+}

@@ -1,0 +1,35 @@
+use Rattle.rehearsal.proofs.Turns.{read-on}
+use borrow.Author.Needs.{needs}
+use Rattle.rehearse.proofs.hear.Statement.{statement}
+use Rattle.rehearse.proofs.hear.Tie as tie
+use Rattle.rehearse.proofs.hear.Reads as reads
+use Rattle.rehearse.proofs.hear.Lts as lts
+use Rattle.rehearsal.proofs.Session.read.Reads as read-reads
+use Rattle.rehearse.proofs.run.Reads as run-reads
+use Rattle.rehearse.proofs.tell.Reads as tell-reads
+
+-- src/main.rt:71:9
+read-requires : tie.Need-read-requires
+read-requires c κs = search needs
+
+-- src/main.rt:76:9
+tell-requires : tie.Need-tell-requires
+tell-requires c κs = search needs
+
+-- src/main.rt:77:9
+run-requires : tie.Need-run-requires
+run-requires c κs = search needs
+
+-- src/main.rt:66:1
+same-length : tie.Need-same-length
+same-length c = search needs
+
+-- src/main.rt:66:1
+returns : tie.Need-returns
+returns c =
+    let g = c .before .before .before .before .before .before .before .before .before .before .before .before .before .before .before .args .going in
+    let on = read-on (g .session) _ (g .place) (c .before .before .before .before .before .before .before .before .before .before .before .before .read .result) (c .before .before .before .before .before .before .before .before .before .before .before .before .read .ensures) (c .before .before .before .before .before .before .before .before .before .before .before .before .before .before .before .pre .lines) (c .before .before .before .before .before .before .before .before .before .before .before .before .before .before .before .pre .more) in
+    record { further = on .further; inside = on .inside; lines = on .lines; filled = search needs }
+
+pub hear-spec : {M : Type 1} → statement M
+hear-spec = tie.close (tie.spec read-requires tell-requires run-requires same-length returns)

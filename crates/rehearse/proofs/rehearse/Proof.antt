@@ -1,0 +1,77 @@
+use mathlib.Core.Path.{_≡_, refl}
+use Prim.Native.Nat.{_≤_, _-_}
+use lib.ListN.{length, length-take}
+use native.Mathlib.Omega.{arith}
+use borrow.Author.Needs.{needs}
+use Rattle.rehearse.proofs.rehearse.Statement.{statement}
+use Rattle.rehearse.proofs.rehearse.Tie as tie
+use Rattle.rehearse.proofs.rehearse.Reads as reads
+use Rattle.rehearse.proofs.rehearse.Lts as lts
+use Rattle.io.proofs.write_all.Reads as write-all-reads
+use Rattle.rehearsal.proofs.Session.begin.Reads as begin-reads
+use Rattle.rehearse.proofs.hear.Reads as hear-reads
+
+abbrev Inv-loop : tie.InvT-loop
+Inv-loop input out₀ going₀ out going =
+    (length out ≡ 4096)
+    × ((going .place .lines ≤ going .place .from) × ((going .place .from ≤ length input) × (going .at ≤ length out)))
+
+abbrev μ-loop : tie.MeasureT-loop
+μ-loop input out₀ going₀ out going = length input - going .place .from
+
+-- src/main.rt:89:18
+begin-requires : tie.Need-begin-requires Inv-loop μ-loop
+begin-requires c κs = search needs
+
+-- src/main.rt:96:5
+loop-holds : tie.Need-loop-holds Inv-loop μ-loop
+loop-holds c = (refl, omega arith)
+
+-- src/main.rt:100:29
+slice-aggregate-hear : tie.Need-slice-aggregate-hear Inv-loop μ-loop
+slice-aggregate-hear c = search needs
+
+-- src/main.rt:100:9
+hear-requires : tie.Need-hear-requires Inv-loop μ-loop
+hear-requires c κs = record { more = search needs; lines = search needs; filled = search needs; large = search needs }
+
+-- src/main.rt:96:5
+loop-less : tie.Need-loop-less Inv-loop μ-loop
+loop-less c = omega (arith, c .before .hear .ensures .further, c .before .hear .ensures .inside)
+
+-- src/main.rt:96:5
+loop-again : tie.Need-loop-again Inv-loop μ-loop
+loop-again c = search needs
+
+-- src/main.rt:103:34
+array-share-prefix-out : tie.Need-array-share-prefix-out Inv-loop μ-loop
+array-share-prefix-out c = omega arith
+
+-- src/main.rt:103:34
+slice-aggregate-write-all : tie.Need-slice-aggregate-write-all Inv-loop μ-loop
+slice-aggregate-write-all c = simp length-take (omega arith)
+
+-- src/main.rt:103:5
+write-all-requires : tie.Need-write-all-requires Inv-loop μ-loop
+write-all-requires c κs = search needs
+
+-- src/main.rt:86:1
+returns : tie.Need-returns Inv-loop μ-loop
+returns c = search needs
+
+pub rehearse-spec : {M : Type 1} → statement M
+rehearse-spec =
+    tie.close
+    (tie.spec
+    Inv-loop
+    μ-loop
+    begin-requires
+    loop-holds
+    slice-aggregate-hear
+    hear-requires
+    loop-less
+    loop-again
+    array-share-prefix-out
+    slice-aggregate-write-all
+    write-all-requires
+    returns)

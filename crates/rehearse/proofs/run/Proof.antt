@@ -1,0 +1,65 @@
+use mathlib.Core.Path.{_≡_, refl, ap}
+use Prim.Native.Nat.{_≤_}
+use lib.ListN.{length}
+use native.Mathlib.Omega.{arith}
+use borrow.Author.Needs.{needs}
+use Rattle.rehearsal.specs.Texts.{mostText}
+use Rattle.rehearsal.specs.Session.{tickOf}
+use Rattle.rehearsal.proofs.Turns.{tick-less}
+use Rattle.rehearse.proofs.run.Statement.{statement}
+use Rattle.rehearse.proofs.run.Tie as tie
+use Rattle.rehearse.proofs.run.Reads as reads
+use Rattle.rehearse.proofs.run.Lts as lts
+use Rattle.rehearsal.proofs.Session.tick.Reads as tick-reads
+use Rattle.rehearse.proofs.tell.Reads as tell-reads
+
+abbrev Inv-loop : tie.InvT-loop
+Inv-loop out₀ session₀ at₀ out session at = (length out ≡ length out₀) × ((at ≤ length out) × (mostText ≤ length out))
+
+abbrev μ-loop : tie.MeasureT-loop
+μ-loop out₀ session₀ at₀ out session at = session .left
+
+-- src/main.rt:53:5
+loop-holds : tie.Need-loop-holds Inv-loop μ-loop
+loop-holds c = (refl, c .before .before .pre)
+
+-- src/main.rt:54:13
+tick-requires : tie.Need-tick-requires Inv-loop μ-loop
+tick-requires c κs = search needs
+
+-- src/main.rt:57:9
+tell-requires : tie.Need-tell-requires Inv-loop μ-loop
+tell-requires c κs = search needs
+
+-- src/main.rt:53:5
+loop-less : tie.Need-loop-less Inv-loop μ-loop
+loop-less c =
+    let s = c .before .before .before .before .before .before .before .before .loop .session in
+    let e : c .before .before .before .before .before .tick .result .session .left ≡ tickOf s .session .left = ap (λ t. t .session .left) (c .before .before .before .before .before .tick .ensures) in
+    omega (arith, e, tick-less s (omega arith))
+
+-- src/main.rt:53:5
+loop-again : tie.Need-loop-again Inv-loop μ-loop
+loop-again c = search needs
+
+-- src/main.rt:47:1
+same-length : tie.Need-same-length Inv-loop μ-loop
+same-length c = search needs
+
+-- src/main.rt:47:1
+returns : tie.Need-returns Inv-loop μ-loop
+returns c = search needs
+
+pub run-spec : {M : Type 1} → statement M
+run-spec =
+    tie.close
+    (tie.spec
+    Inv-loop
+    μ-loop
+    loop-holds
+    tick-requires
+    tell-requires
+    loop-less
+    loop-again
+    same-length
+    returns)

@@ -1,0 +1,108 @@
+// The rehearsal program: standard input is read whole, and each answer goes to standard output.
+// It must not know the rules: it reads, calls the rehearsal and writes.
+use libc::STDIN_FILENO;
+use libc::STDOUT_FILENO;
+use rehearsal::Place;
+use rehearsal::Said;
+use rehearsal::Session;
+ghost use Prim.Native.Nat.{_+_, _≤_, _<_};
+ghost use lib.ListN.{length};
+ghost use Rattle.rehearsal.specs.Texts.{mostText};
+ghost use Rattle.rehearse.specs.Going.{Ready, Onto};
+
+// A session under way: where it stands in the input, and how many bytes of the buffer wait to be written.
+struct Going {
+    session: Session,
+    place: Place,
+    at: usize,
+}
+
+// A run under way.
+struct Running {
+    session: Session,
+    at: usize,
+}
+
+// The place for the next answer: what waits is written first where there may be no room.
+fn place_in(out: &[u8], at: usize) -> usize
+    requires { ⌜ (at ≤ length (now out)) × (mostText ≤ length (now out)) ⌝ }
+    ensures { λ r. ⌜ r + mostText ≤ length (now (out .entry)) ⌝ }
+{
+    if rehearsal::put::MOST <= out.len() - at {
+        return at;
+    }
+    io::write_all(STDOUT_FILENO, &out[..at]);
+    0
+}
+
+fn tell(out: &mut [u8], at: usize, said: Said) -> usize
+    requires { ⌜ (at ≤ length (now out)) × (mostText ≤ length (now out)) ⌝ }
+    ensures { λ r. ⌜ r ≤ length (now (out .entry)) ⌝ }
+{
+    let to = place_in(out, at);
+    rehearsal::put::said(out, to, said)
+}
+
+// The ticks of a run, if one is under way.
+fn run(out: &mut [u8], running: Running) -> Running
+    requires { ⌜ (running .at ≤ length (now out)) × (mostText ≤ length (now out)) ⌝ }
+    ensures { λ r. ⌜ r .at ≤ length (now (out .entry)) ⌝ }
+{
+    let mut session = running.session;
+    let mut at = running.at;
+    while 0 < session.left {
+        let turn = session.tick();
+        let said = turn.said;
+        session = turn.session;
+        at = tell(out, at, said);
+    }
+    Running { session, at }
+}
+
+// One line and what it answers.
+fn hear(input: &[u8], out: &mut [u8], going: Going) -> Going
+    requires { ⌜ Ready (now input) (now out) going ⌝ }
+    ensures { λ r. ⌜ Onto (now (input .entry)) (now (out .entry)) going r ⌝ }
+{
+    let at = going.at;
+    let read = going.session.read(input, going.place);
+    let place = read.place;
+    let turn = read.turn;
+    let session = turn.session;
+    let said = turn.said;
+    let told = tell(out, at, said);
+    let ran = run(out, Running { session, at: told });
+    let after = ran.session;
+    Going {
+        session: after,
+        place,
+        at: ran.at,
+    }
+}
+
+fn rehearse(input: &[u8]) {
+    let mut out = [0u8; 4096];
+    let mut going = Going {
+        session: Session::begin(),
+        place: Place { from: 0, lines: 0 },
+        at: 0,
+    };
+    while going.place.from < input.len() {
+        if going.session.over {
+            break;
+        }
+        going = hear(input, &mut out, going);
+    }
+    let at = going.at;
+    io::write_all(STDOUT_FILENO, &out[..at]);
+}
+
+fn main() {
+    let mut input = [0u8; Place::MOST + 1];
+    let n = io::read_full(STDIN_FILENO, &mut input);
+    if Place::MOST < n {
+        io::write_all(STDOUT_FILENO, b"too long\n");
+        return;
+    }
+    rehearse(&input[..n]);
+}
