@@ -1,6 +1,6 @@
 -- Laws of the walk over the due instants.
-use mathlib.Core.Path.{_≡_, sym, ap, _∙_}
-use mathlib.Core.Bool.{Bool, cond}
+use mathlib.Core.Path.{_≡_, refl, sym, ap, _∙_}
+use mathlib.Core.Bool.{Bool, true, false, cond}
 use mathlib.Core.List.{List, [], _∷_}
 use Prim.Native.Nat.{ℕ, _+_, _-_, _≤_, _<_}
 use native.Mathlib.Nat.{le-refl}
@@ -120,3 +120,10 @@ fits-says clock fs js r o s =
           (room-within-horizon b (roundOf (periods fs)) (lastDue clock fs js) order (book-round 1 fs (o .feeds)) (last-beyond clock fs js) (s .yes e));
       no = λ e fit. s .no e (λ D h k. same .0 fit D h);
     }
+
+-- TWO ANSWERS THAT THE CONTRACT OF LINE 6 ALLOWS ARE THE SAME
+pub fits-said-once : (b : Book) (r s : Bool) → FitsSays r b → FitsSays s b → r ≡ s
+fits-said-once b true true x y = refl
+fits-said-once b true false x y = absurd (y .no refl (x .yes refl))
+fits-said-once b false true x y = absurd (x .no refl (y .yes refl))
+fits-said-once b false false x y = refl
