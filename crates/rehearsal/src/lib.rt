@@ -1,15 +1,17 @@
 // The rehearsal: a session over the desk that hears one line after another and tells what each answers.
 // It must not know input and output: the text is lent to it, and so is the buffer that its answers go into.
 use desk::Desk;
-use desk::Ran;
 use desk::Refusal;
 use desk::Verdict;
+use serving::Who;
+use ticks::Instant;
 use words::Found;
 use words::Line;
 ghost use mathlib.Core.Path.{_≡_};
 ghost use Prim.Native.Nat.{_≤_, _<_, _^_};
 ghost use lib.ListN.{length};
 ghost use Rattle.desk.specs.Answers.{numberOf as numberFor, answerOf as answerFor};
+ghost use Rattle.desk.proofs.Reachable.{Good};
 ghost use Rattle.rehearsal.specs.Session.{begun, badOf, feedOf, goOf, endOf, restOf, runOf, tickOf, stoppedOf};
 ghost use Rattle.rehearsal.specs.Hearing.{AskOf, Heard, Answers};
 
@@ -254,32 +256,45 @@ impl Session {
         }
     }
 
-    // One tick of the run that is under way.
+    // One tick of the run that is under way. Every state from an opening onward is good, so its order is not checked
+    // again at each tick.
     pub fn tick(self) -> Turn
-        requires { ⌜ 0 < self .left ⌝ }
+        requires { ⌜ (0 < self .left) × Good (self .desk) ⌝ }
         ensures { λ r. ⌜ r ≡ tickOf self ⌝ }
     {
-        let instant = self.desk.clock.0;
-        let stepped = self.desk.step();
-        let desk = stepped.desk;
-        let ran = stepped.ran;
+        let at = self.desk.clock;
+        let last = Instant::last();
+        if !last.is_after(at) {
+            return self.stopped(Refusal::PastLast);
+        }
+        let instant = at.0;
+        let ticked = serving::tick(at, self.desk.feeds, self.desk.table);
+        let clock = ticked.clock;
+        let feeds = ticked.feeds;
+        let table = ticked.table;
+        let named = ticked.named;
+        let who = named.who;
+        let desk = Desk {
+            clock,
+            feeds,
+            table,
+        };
         let mut session = self;
         session.desk = desk;
         session.left = self.left - 1;
-        match ran {
-            Ran::Job(number, _) => Turn {
+        match who {
+            Who::Job(number) => Turn {
                 session,
                 said: Said::Job(instant, number),
             },
-            Ran::Feed(position, _) => Turn {
+            Who::Feed(position) => Turn {
                 session,
                 said: Said::Feed(instant, position),
             },
-            Ran::Idle => Turn {
+            Who::Idle => Turn {
                 session,
                 said: Said::Idle(instant),
             },
-            Ran::No(refusal) => session.stopped(refusal),
         }
     }
 

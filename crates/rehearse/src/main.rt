@@ -8,7 +8,7 @@ use rehearsal::Session;
 ghost use Prim.Native.Nat.{_+_, _≤_, _<_};
 ghost use lib.ListN.{length};
 ghost use Rattle.rehearsal.specs.Texts.{mostText};
-ghost use Rattle.rehearse.specs.Going.{Ready, Onto};
+ghost use Rattle.rehearse.specs.Going.{Filled, Ready, Onto};
 
 // A session under way: where it stands in the input, and how many bytes of the buffer wait to be written.
 struct Going {
@@ -45,8 +45,8 @@ fn tell(out: &mut [u8], at: usize, said: Said) -> usize
 
 // The ticks of a run, if one is under way.
 fn run(out: &mut [u8], running: Running) -> Running
-    requires { ⌜ (running .at ≤ length (now out)) × (mostText ≤ length (now out)) ⌝ }
-    ensures { λ r. ⌜ r .at ≤ length (now (out .entry)) ⌝ }
+    requires { ⌜ Filled (now out) (running .session) (running .at) ⌝ }
+    ensures { λ r. ⌜ Filled (now (out .entry)) (r .session) (r .at) ⌝ }
 {
     let mut session = running.session;
     let mut at = running.at;

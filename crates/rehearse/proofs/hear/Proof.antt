@@ -1,4 +1,4 @@
-use Rattle.rehearsal.proofs.Turns.{read-on}
+use Rattle.rehearsal.proofs.Turns.{read-on, read-good}
 use borrow.Author.Needs.{needs}
 use Rattle.rehearse.proofs.hear.Statement.{statement}
 use Rattle.rehearse.proofs.hear.Tie as tie
@@ -18,7 +18,13 @@ tell-requires c κs = search needs
 
 -- src/main.rt:77:9
 run-requires : tie.Need-run-requires
-run-requires c κs = search needs
+run-requires c κs =
+    let g = c .before .before .before .before .before .before .before .before .before .before .before .args .going in
+    record {
+      good = read-good (g .session) _ (g .place) (c .before .before .before .before .before .before .before .before .read .result) (c .before .before .before .before .before .before .before .before .before .before .before .pre .buffer .good) (c .before .before .before .before .before .before .before .before .read .ensures);
+      filled = search needs;
+      large = search needs;
+    }
 
 -- src/main.rt:66:1
 same-length : tie.Need-same-length
@@ -29,7 +35,7 @@ returns : tie.Need-returns
 returns c =
     let g = c .before .before .before .before .before .before .before .before .before .before .before .before .before .before .before .args .going in
     let on = read-on (g .session) _ (g .place) (c .before .before .before .before .before .before .before .before .before .before .before .before .read .result) (c .before .before .before .before .before .before .before .before .before .before .before .before .read .ensures) (c .before .before .before .before .before .before .before .before .before .before .before .before .before .before .before .pre .lines) (c .before .before .before .before .before .before .before .before .before .before .before .before .before .before .before .pre .more) in
-    record { further = on .further; inside = on .inside; lines = on .lines; filled = search needs }
+    record { further = on .further; inside = on .inside; lines = on .lines; buffer = search needs }
 
 pub hear-spec : {M : Type 1} → statement M
 hear-spec = tie.close (tie.spec read-requires tell-requires run-requires same-length returns)

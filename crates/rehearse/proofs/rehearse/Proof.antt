@@ -1,3 +1,7 @@
+use mathlib.Core.Path.{subst, sym}
+use Rattle.desk.proofs.Reachable.{Good}
+use Rattle.rehearsal.proofs.Turns.{empty-is-good}
+use Rattle.rehearse.specs.Going.{Filled}
 use mathlib.Core.Path.{_≡_, refl}
 use Prim.Native.Nat.{_≤_, _-_}
 use lib.ListN.{length, length-take}
@@ -14,7 +18,9 @@ use Rattle.rehearse.proofs.hear.Reads as hear-reads
 abbrev Inv-loop : tie.InvT-loop
 Inv-loop input out₀ going₀ out going =
     (length out ≡ 4096)
-    × ((going .place .lines ≤ going .place .from) × ((going .place .from ≤ length input) × (going .at ≤ length out)))
+    × (going .place .lines ≤ going .place .from)
+    × (going .place .from ≤ length input)
+    × Filled out (going .session) (going .at)
 
 abbrev μ-loop : tie.MeasureT-loop
 μ-loop input out₀ going₀ out going = length input - going .place .from
@@ -25,7 +31,12 @@ begin-requires c κs = search needs
 
 -- src/main.rt:96:5
 loop-holds : tie.Need-loop-holds Inv-loop μ-loop
-loop-holds c = (refl, omega arith)
+loop-holds c = (
+  refl,
+  omega arith,
+  omega arith,
+  record { good = subst (λ s. Good (s .desk)) (sym (c .begin .ensures)) empty-is-good; filled = omega arith; large = omega arith },
+)
 
 -- src/main.rt:100:29
 slice-aggregate-hear : tie.Need-slice-aggregate-hear Inv-loop μ-loop
@@ -33,7 +44,9 @@ slice-aggregate-hear c = search needs
 
 -- src/main.rt:100:9
 hear-requires : tie.Need-hear-requires Inv-loop μ-loop
-hear-requires c κs = record { more = search needs; lines = search needs; filled = search needs; large = search needs }
+hear-requires c κs =
+    let f = c .before .before .before .before .loop .inv .3 in
+    record { more = search needs; lines = search needs; buffer = f }
 
 -- src/main.rt:96:5
 loop-less : tie.Need-loop-less Inv-loop μ-loop
@@ -41,7 +54,9 @@ loop-less c = omega (arith, c .before .hear .ensures .further, c .before .hear .
 
 -- src/main.rt:96:5
 loop-again : tie.Need-loop-again Inv-loop μ-loop
-loop-again c = search needs
+loop-again c =
+    let o = c .before .hear .ensures in
+    (search needs, search needs, search needs, record { good = o .buffer .good; filled = search needs; large = search needs })
 
 -- src/main.rt:103:34
 array-share-prefix-out : tie.Need-array-share-prefix-out Inv-loop μ-loop

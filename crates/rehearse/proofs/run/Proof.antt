@@ -1,9 +1,11 @@
+use mathlib.Core.Path.{subst, sym}
+use Rattle.desk.proofs.Reachable.{Good}
+use Rattle.rehearsal.proofs.Turns.{tick-good}
+use Rattle.rehearse.specs.Going.{Filled}
 use mathlib.Core.Path.{_≡_, refl, ap}
-use Prim.Native.Nat.{_≤_}
 use lib.ListN.{length}
 use native.Mathlib.Omega.{arith}
 use borrow.Author.Needs.{needs}
-use Rattle.rehearsal.specs.Texts.{mostText}
 use Rattle.rehearsal.specs.Session.{tickOf}
 use Rattle.rehearsal.proofs.Turns.{tick-less}
 use Rattle.rehearse.proofs.run.Statement.{statement}
@@ -14,7 +16,7 @@ use Rattle.rehearsal.proofs.Session.tick.Reads as tick-reads
 use Rattle.rehearse.proofs.tell.Reads as tell-reads
 
 abbrev Inv-loop : tie.InvT-loop
-Inv-loop out₀ session₀ at₀ out session at = (length out ≡ length out₀) × ((at ≤ length out) × (mostText ≤ length out))
+Inv-loop out₀ session₀ at₀ out session at = (length out ≡ length out₀) × Filled out session at
 
 abbrev μ-loop : tie.MeasureT-loop
 μ-loop out₀ session₀ at₀ out session at = session .left
@@ -25,11 +27,11 @@ loop-holds c = (refl, c .before .before .pre)
 
 -- src/main.rt:54:13
 tick-requires : tie.Need-tick-requires Inv-loop μ-loop
-tick-requires c κs = search needs
+tick-requires c κs = (search needs, c .before .before .loop .inv .1 .good)
 
 -- src/main.rt:57:9
 tell-requires : tie.Need-tell-requires Inv-loop μ-loop
-tell-requires c κs = search needs
+tell-requires c κs = (search needs, search needs)
 
 -- src/main.rt:53:5
 loop-less : tie.Need-loop-less Inv-loop μ-loop
@@ -40,7 +42,15 @@ loop-less c =
 
 -- src/main.rt:53:5
 loop-again : tie.Need-loop-again Inv-loop μ-loop
-loop-again c = search needs
+loop-again c =
+    let f = c .before .before .before .before .before .before .before .before .loop .inv .1 in (
+      search needs,
+      record {
+        good = subst (λ t. Good (t .session .desk)) (sym (c .before .before .before .before .before .tick .ensures)) (tick-good (c .before .before .before .before .before .before .before .before .loop .session) (f .good));
+        filled = search needs;
+        large = search needs;
+      },
+    )
 
 -- src/main.rt:47:1
 same-length : tie.Need-same-length Inv-loop μ-loop
@@ -48,7 +58,9 @@ same-length c = search needs
 
 -- src/main.rt:47:1
 returns : tie.Need-returns Inv-loop μ-loop
-returns c = search needs
+returns c =
+    let f = c .before .before .loop .inv .1 in
+    record { good = f .good; filled = search needs; large = search needs }
 
 pub run-spec : {M : Type 1} → statement M
 run-spec =
