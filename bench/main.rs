@@ -1,0 +1,185 @@
+//! Times of the calls over the library, each beside a plain hand-written desk in the same run.
+
+#[path = "../examples/rust/desk.rs"]
+#[allow(dead_code)]
+mod desk;
+mod plain;
+
+use desk::Desk;
+use std::hint::black_box;
+
+#[repr(C)]
+struct Time {
+    seconds: i64,
+    nanoseconds: i64,
+}
+
+extern "C" {
+    fn clock_gettime(clock: i32, time: *mut Time) -> i32;
+}
+
+/// Nanoseconds of processor time of this thread, so that other work on the machine does not count.
+fn now() -> f64 {
+    let mut time = Time { seconds: 0, nanoseconds: 0 };
+    assert_eq!(unsafe { clock_gettime(3, &mut time) }, 0);
+    time.seconds as f64 * 1e9 + time.nanoseconds as f64
+}
+
+/// Nanoseconds a call: the best of five rounds, each of at least 20 ms.
+fn time(mut call: impl FnMut()) -> f64 {
+    let mut times = 1;
+    let mut best = f64::INFINITY;
+    let mut rounds = 0;
+    while rounds < 5 {
+        let began = now();
+        for _ in 0..times {
+            call();
+        }
+        let took = now() - began;
+        if took < 2e7 && rounds == 0 {
+            times *= 2;
+            continue;
+        }
+        best = best.min(took / f64::from(times));
+        rounds += 1;
+    }
+    best
+}
+
+fn row(name: &str, library: f64, plain: f64) {
+    println!("| {name} | {library:.0} | {plain:.0} | {:.2} |", library / plain);
+}
+
+/// Feeds with a round of 5,040, at half load.
+fn feeds(count: usize) -> Vec<u32> {
+    let periods = [48, 60, 80, 84, 90, 120, 126, 140, 144, 168, 180, 210, 240, 252, 280, 336];
+    (0..count).flat_map(|i| [periods[i], periods[i] / (2 * count as u32).max(1) + u32::from(count == 16), 0]).collect()
+}
+
+/// A desk with so many feeds and jobs.
+fn with_jobs(feed_count: usize, jobs: u32) -> Desk {
+    let mut desk = desk::open(&feeds(feed_count), 0).desk;
+    for number in 1..=jobs {
+        let answer = desk.ask(number, 20, 6_000 + 200 * number);
+        assert_eq!(answer.refusal, 0, "{feed_count} feeds, job {number}");
+        desk = answer.desk;
+    }
+    desk
+}
+
+fn asking(state: &Desk, name: &str, work: u32, lead: u32, refusal: u32) {
+    let mut other = *state;
+    assert_eq!(state.ask(900, work, lead).refusal, refusal, "{name}");
+    assert_eq!(plain::ask(&mut other, 900, work, lead), refusal, "{name}, plain");
+    let library = time(|| {
+        black_box(black_box(*state).ask(900, work, lead));
+    });
+    let own = time(|| {
+        let mut desk = black_box(*state);
+        plain::ask(&mut desk, 900, work, lead);
+        black_box(&desk);
+    });
+    row(name, library, own);
+}
+
+fn calls(feed_count: usize, jobs: u32) {
+    let state = with_jobs(feed_count, jobs);
+    let at = |what: &str| format!("{what}, {jobs} jobs, {feed_count} feeds");
+    asking(&state, &at("ask taken"), 10, 20_000, 0);
+    asking(&state, &at("ask refused near"), 3, 2, 6);
+    asking(&state, &at("ask refused far"), 30_000, 30_000 - 1, 6);
+    let library = time(|| {
+        black_box(black_box(state).step());
+    });
+    let own = time(|| {
+        let mut desk = black_box(state);
+        black_box(plain::step(&mut desk));
+        black_box(&desk);
+    });
+    row(&at("step"), library, own);
+    if jobs > 0 {
+        let library = time(|| {
+            black_box(black_box(state).end(jobs / 2 + 1));
+        });
+        let own = time(|| {
+            let mut desk = black_box(state);
+            plain::end(&mut desk, jobs / 2 + 1);
+            black_box(&desk);
+        });
+        row(&at("end"), library, own);
+    }
+}
+
+/// 86,400 ticks with a request every 50, the answers compared; ticks a second of both.
+fn day() {
+    let requests = |tick: u64| (tick as u32 / 50 % 60 + 1, 10 + tick as u32 % 30, 300 + tick as u32 % 4_000);
+    let mut one = desk::open(&feeds(4), 0).desk;
+    let mut two = one;
+    let began = now();
+    let mut named = Vec::new();
+    for tick in 0..86_400 {
+        if tick % 50 == 0 {
+            let (number, work, lead) = requests(tick);
+            one = one.ask(number, work, lead).desk;
+        }
+        let step = one.step();
+        named.push((step.refusal, step.kind, step.number));
+        one = step.desk;
+    }
+    let library = (now() - began) / 1e9;
+    let began = now();
+    for tick in 0..86_400 {
+        if tick % 50 == 0 {
+            let (number, work, lead) = requests(tick);
+            plain::ask(&mut two, number, work, lead);
+        }
+        assert_eq!(plain::step(&mut two), named[tick as usize], "tick {tick}");
+    }
+    let own = (now() - began) / 1e9;
+    println!("\nA day of 86,400 ticks, 4 feeds, a request every 50 ticks, each step with its check of the state:");
+    println!("{:.0} ticks a second, plain {:.0}, ratio {:.2}.", 86_400.0 / library, 86_400.0 / own, library / own);
+}
+
+/// Feeds of one period and as many offsets, so that something is due at nearly every instant, and one of the longest.
+fn dense(count: u32, period: u32) -> Vec<u32> {
+    let mut list: Vec<u32> = (0..count).flat_map(|i| [period, 1, i]).collect();
+    list.extend([40_320, 1, 40_319]);
+    list
+}
+
+/// Asks that look far and at many instants: the longest round behind the longest lead.
+fn slowest() {
+    let mut worst = (0.0, 0.0, String::new());
+    for (count, period) in [(0, 1), (1, 2), (3, 4), (7, 8), (15, 16), (15, 18), (15, 20)] {
+        let mut state = desk::open(&dense(count, period), 0).desk;
+        for number in 1..=63 {
+            state = state.ask(number, 1, 65_536 - number).desk;
+        }
+        let began = now();
+        let answer = black_box(state).ask(900, 1, 65_536);
+        let library = (now() - began) / 1e6;
+        let mut other = state;
+        let began = now();
+        assert_eq!(plain::ask(&mut other, 900, 1, 65_536), answer.refusal);
+        let own = (now() - began) / 1e6;
+        if library > worst.0 {
+            let jobs = state.table.count;
+            worst = (library, own, format!("{count} feeds of period {period} and one of 40,320, {jobs} jobs before it, answer {}", answer.refusal));
+        }
+    }
+    let (library, own, name) = worst;
+    println!("\nThe slowest ask found: {library:.0} ms, plain {own:.0} ms, ratio {:.2} ({name}).", library / own);
+}
+
+fn main() {
+    println!("| call | library, ns | plain, ns | ratio |\n|---|---|---|---|");
+    for feed_count in [0, 4, 16] {
+        for jobs in [0, 16, 63] {
+            calls(feed_count, jobs);
+        }
+    }
+    let full = with_jobs(4, 64);
+    asking(&full, "ask with all places taken, 64 jobs, 4 feeds", 1, 1, 5);
+    day();
+    slowest();
+}

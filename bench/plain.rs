@@ -1,0 +1,209 @@
+//! A plain hand-written desk for comparison: the same checks of the state and the same walk over the instants at which
+//! something is due, as one writes them in Rust without proofs. It works on a borrowed state and copies nothing.
+
+use crate::desk::{Desk, Feed, Job};
+
+const LAST: u64 = 1 << 40;
+const MOST_JOB: u64 = 65_536;
+const MOST_FEED: u64 = 40_320;
+
+fn gcd(a: u64, b: u64) -> u64 {
+    if b == 0 { a } else { gcd(b, a % b) }
+}
+
+fn since(feed: &Feed, clock: u64) -> u64 {
+    (clock + feed.period - feed.offset) % feed.period
+}
+
+fn first_due(feed: &Feed, clock: u64) -> u64 {
+    clock + feed.period - since(feed, clock)
+}
+
+fn feeds_of(desk: &Desk) -> &[Feed] {
+    &desk.feeds.feeds[..desk.feeds.count]
+}
+
+fn jobs_of(desk: &Desk) -> &[Job] {
+    &desk.table.jobs[..desk.table.count]
+}
+
+/// The round, or nothing where it is above its limit.
+fn round_of(feeds: &[Feed]) -> Option<u64> {
+    let mut round = 1;
+    for feed in feeds {
+        round = round / gcd(round, feed.period) * feed.period;
+        if round > MOST_FEED {
+            return None;
+        }
+    }
+    Some(round)
+}
+
+fn feed_within(feed: &Feed) -> bool {
+    (1..=MOST_FEED).contains(&feed.period) && (1..=MOST_FEED).contains(&feed.work) && feed.offset < feed.period
+}
+
+fn feeds_in_order(desk: &Desk) -> bool {
+    if desk.feeds.count > 16 {
+        return false;
+    }
+    let feeds = feeds_of(desk);
+    if !feeds.iter().all(feed_within) {
+        return false;
+    }
+    let Some(round) = round_of(feeds) else { return false };
+    let load: u64 = feeds.iter().map(|feed| feed.work * (round / feed.period)).sum();
+    let empty = |feed: &Feed| feed.period == 0 && feed.work == 0 && feed.offset == 0 && feed.owes == 0;
+    let piece = |feed: &Feed| feed.owes <= feed.work && (feed.owes == 0 || feed.offset <= desk.clock);
+    load <= round && desk.feeds.feeds[desk.feeds.count..].iter().all(empty) && feeds.iter().all(piece)
+}
+
+fn jobs_in_order(desk: &Desk) -> bool {
+    if desk.table.count > 64 {
+        return false;
+    }
+    let jobs = jobs_of(desk);
+    let within = |job: &Job| {
+        job.number != 0
+            && (1..=MOST_JOB).contains(&job.owed)
+            && job.deadline > desk.clock
+            && job.deadline - desk.clock <= MOST_JOB
+            && job.deadline <= LAST
+    };
+    let empty = |job: &Job| job.number == 0 && job.owed == 0 && job.deadline == 0;
+    jobs.iter().all(within)
+        && jobs.iter().enumerate().all(|(i, job)| jobs[i + 1..].iter().all(|other| other.number != job.number))
+        && desk.table.jobs[desk.table.count..].iter().all(empty)
+}
+
+fn in_order(desk: &Desk) -> bool {
+    desk.clock <= LAST && feeds_in_order(desk) && jobs_in_order(desk)
+}
+
+fn owed_by(desk: &Desk, by: u64) -> u64 {
+    let jobs: u64 = jobs_of(desk).iter().filter(|job| job.deadline <= by).map(|job| job.owed).sum();
+    let feeds: u64 = feeds_of(desk)
+        .iter()
+        .map(|feed| {
+            let due = first_due(feed, desk.clock);
+            if by < due { 0 } else { feed.owes + feed.work * ((by - due) / feed.period) }
+        })
+        .sum();
+    jobs + feeds
+}
+
+fn next_due(desk: &Desk, by: u64, till: u64) -> u64 {
+    let mut next = till;
+    for job in jobs_of(desk) {
+        if job.deadline > by {
+            next = next.min(job.deadline);
+        }
+    }
+    for feed in feeds_of(desk) {
+        let due = first_due(feed, desk.clock);
+        next = next.min(if by < due { due } else { by + feed.period - (by - due) % feed.period });
+    }
+    next
+}
+
+fn fits(desk: &Desk) -> bool {
+    let jobs = jobs_of(desk).iter().map(|job| job.deadline).max().unwrap_or(0);
+    let feeds = feeds_of(desk).iter().map(|feed| first_due(feed, desk.clock)).max().unwrap_or(0);
+    let Some(round) = round_of(feeds_of(desk)) else { return false };
+    let horizon = desk.clock.max(jobs).max(feeds) + round;
+    let mut by = desk.clock;
+    while by < horizon {
+        if by - desk.clock < owed_by(desk, by) {
+            return false;
+        }
+        by = next_due(desk, by, horizon);
+    }
+    true
+}
+
+pub fn ask(desk: &mut Desk, number: u32, work: u32, lead: u32) -> u32 {
+    if !in_order(desk) {
+        return 13;
+    }
+    let (work, lead) = (u64::from(work), u64::from(lead));
+    if number == 0 {
+        return 1;
+    }
+    if !(1..=MOST_JOB).contains(&work) || !(1..=MOST_JOB).contains(&lead) {
+        return 2;
+    }
+    if desk.clock + lead > LAST {
+        return 3;
+    }
+    if jobs_of(desk).iter().any(|job| job.number == number) {
+        return 4;
+    }
+    if desk.table.count == 64 {
+        return 5;
+    }
+    let at = desk.table.count;
+    desk.table.jobs[at] = Job { number, owed: work, deadline: desk.clock + lead };
+    desk.table.count += 1;
+    if fits(desk) {
+        return 0;
+    }
+    desk.table.count -= 1;
+    desk.table.jobs[at] = Job { number: 0, owed: 0, deadline: 0 };
+    6
+}
+
+fn out(desk: &mut Desk, at: usize) {
+    let count = desk.table.count;
+    desk.table.jobs.copy_within(at + 1..count, at);
+    desk.table.jobs[count - 1] = Job { number: 0, owed: 0, deadline: 0 };
+    desk.table.count = count - 1;
+}
+
+pub fn end(desk: &mut Desk, number: u32) -> u32 {
+    if !in_order(desk) {
+        return 13;
+    }
+    let Some(at) = jobs_of(desk).iter().position(|job| job.number == number) else { return 7 };
+    out(desk, at);
+    0
+}
+
+/// Whom the tick goes to: kind (0 idle, 1 job, 2 feed) and number or position.
+pub fn step(desk: &mut Desk) -> (u32, u32, u32) {
+    if !in_order(desk) {
+        return (13, 0, 0);
+    }
+    if desk.clock == LAST {
+        return (3, 0, 0);
+    }
+    let job = jobs_of(desk).iter().enumerate().map(|(i, job)| (job.deadline, job.number, i)).min();
+    let clock = desk.clock;
+    let feed = feeds_of(desk)
+        .iter()
+        .enumerate()
+        .filter(|(_, feed)| feed.owes > 0)
+        .map(|(i, feed)| (first_due(feed, clock), i))
+        .min();
+    let named = match (job, feed) {
+        (Some((due, number, at)), other) if other.map_or(true, |(d, _)| due <= d) => {
+            desk.table.jobs[at].owed -= 1;
+            if desk.table.jobs[at].owed == 0 {
+                out(desk, at);
+            }
+            (0, 1, number)
+        }
+        (_, Some((_, at))) => {
+            desk.feeds.feeds[at].owes -= 1;
+            (0, 2, at as u32 + 1)
+        }
+        _ => (0, 0, 0),
+    };
+    desk.clock += 1;
+    let (clock, count) = (desk.clock, desk.feeds.count);
+    for feed in &mut desk.feeds.feeds[..count] {
+        if clock >= feed.offset && since(feed, clock) == 0 {
+            feed.owes = feed.work;
+        }
+    }
+    named
+}
