@@ -1,4 +1,4 @@
--- The first line that holds, line after line; what a refusal and what a yes hand back.
+-- What a refusal and what a yes hand back.
 use mathlib.Core.Path.{_≡_, refl, sym, ap, _∙_}
 use mathlib.Core.Bool.{true, false, cond}
 use mathlib.Core.List.{List, [], _∷_}
@@ -6,25 +6,12 @@ use Rattle.serving.specs.declared.Named.{Named}
 use Rattle.desk.specs.declared.Desk.{Desk}
 use Rattle.desk.specs.declared.Answer.{Answer}
 use Rattle.desk.specs.declared.Stepped.{Stepped}
-use Rattle.desk.specs.declared.Refusal.{Refusal}
+use Rattle.refusals.specs.declared.Refusal.{Refusal}
 use Rattle.desk.specs.declared.Ran.the-variants as ran
-use Rattle.desk.specs.declared.Verdict.{Verdict}
-use Rattle.desk.specs.declared.Verdict.the-variants.{Yes, No}
-use Rattle.desk.specs.Answers.{Line, firstOf, onYes, ranOf, ranIf, answered}
-
--- a line that holds stops
-pub stops : (l : Line) (ls : List Line) → l .holds ≡ true → firstOf (l ∷ ls) ≡ No (l .refusal)
-unfolding firstOf
-stops l ls h = ap (λ b. cond b (No (l .refusal)) (firstOf ls)) h
-
--- one that does not leaves the answer to the rest
-pub goes-on : (l : Line) (ls : List Line) (v : Verdict) → l .holds ≡ false → firstOf ls ≡ v → firstOf (l ∷ ls) ≡ v
-unfolding firstOf
-goes-on l ls v h e = ap (λ b. cond b (No (l .refusal)) (firstOf ls)) h ∙ e
-
-pub no-line : firstOf [] ≡ Yes
-unfolding firstOf
-no-line = refl
+use Rattle.refusals.specs.declared.Verdict.{Verdict}
+use Rattle.refusals.specs.declared.Verdict.the-variants.{Yes, No}
+use Rattle.refusals.specs.Refusals.{Line, firstOf, onYes}
+use Rattle.desk.specs.Answers.{ranOf, ranIf, answered}
 
 -- a refusal hands back the state as it was
 pub refused-is : (ls : List Line) (new old : Desk) (r : Refusal) → firstOf ls ≡ No r

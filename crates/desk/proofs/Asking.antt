@@ -24,11 +24,11 @@ use Rattle.ledger.proofs.Reading.{jobs-of-book}
 use Rattle.room.specs.Owed.{Ordered}
 use Rattle.desk.specs.declared.Desk.{Desk}
 use Rattle.desk.specs.declared.Answer.{Answer}
-use Rattle.desk.specs.declared.Refusal.{Refusal}
-use Rattle.desk.specs.declared.Verdict.{Verdict}
-use Rattle.desk.specs.declared.Verdict.the-variants.{Yes, No}
+use Rattle.refusals.specs.declared.Refusal.{Refusal}
+use Rattle.refusals.specs.declared.Verdict.{Verdict}
+use Rattle.refusals.specs.declared.Verdict.the-variants.{Yes, No}
 use Rattle.desk.specs.State.{inOrder, book, deskOf, Sized}
-use Rattle.desk.specs.Answers.{Line, firstOf}
+use Rattle.refusals.specs.Refusals.{Line, firstOf}
 use Rattle.desk.specs.Calls.{disorder}
 use Rattle.desk.specs.Asking.{askLines, requested, with-job, Admissible, Judged, Asked}
 use Rattle.desk.proofs.State.{in-order}

@@ -29,8 +29,7 @@ use Rattle.edf.specs.Fits.{Fits}
 use Rattle.edf.specs.Owed.{byThen, owedBy, Room, RoomBelow}
 use Rattle.edf.specs.Order.{InOrder}
 use Rattle.edf.specs.Calls.{taking, resting, Askable}
-use Rattle.edf.specs.Load.{aRound, opened}
-use Rattle.edf.proofs.Sound.{Sound}
+use Rattle.edf.specs.Load.{aRound, opened, Sound}
 use Rattle.edf.proofs.Counted.{fits-has-room}
 use Rattle.edf.proofs.Service.{room-fits}
 use Rattle.edf.proofs.Calls.{taking-in-order, resting-is-sound}
@@ -38,18 +37,19 @@ use Rattle.edf.proofs.Horizon.{room-within-horizon}
 use Rattle.ledger.specs.Reading.{bookFeeds}
 use Rattle.ledger.specs.InOrder.{Held}
 use Rattle.desk.specs.declared.Desk.{Desk}
-use Rattle.desk.specs.declared.Refusal.the-variants.{NotInOrder, Outside, TooManyFeeds, RoundTooLong, TooMuchLoad, NotThree}
-use Rattle.desk.specs.declared.Verdict.{Verdict}
-use Rattle.desk.specs.declared.Verdict.the-variants.{Yes, No}
-use Rattle.desk.specs.Answers.{answerOf, firstOf, onYes, verdictOf}
-use Rattle.desk.specs.State.{empty, book, deskOf}
+use Rattle.refusals.specs.declared.Refusal.the-variants.{NotInOrder, Outside, TooManyFeeds, RoundTooLong, TooMuchLoad, NotThree}
+use Rattle.refusals.specs.declared.Verdict.{Verdict}
+use Rattle.refusals.specs.declared.Verdict.the-variants.{Yes, No}
+use Rattle.refusals.specs.Refusals.{answerOf, firstOf, onYes}
+use Rattle.desk.specs.Answers.{verdictOf}
+use Rattle.desk.specs.State.{empty, book, deskOf, Good}
 use Rattle.desk.specs.Calls.{disorder, restLines, restOf}
 use Rattle.desk.specs.Asking.{askLines, requested, with-job, Admissible, Judged}
 use Rattle.desk.specs.Opening.{notThree, tooMany, outside, roundTooLong, tooMuch, openLines, openedOf}
 use Rattle.desk.specs.Examples.{Said, asks, rests, Row, Goes, Holds, x, everyTick, table}
 use Rattle.desk.proofs.State.{book-of-desk}
 use Rattle.desk.proofs.Asking.{admissible}
-use Rattle.desk.proofs.Reachable.{Good, good-desk, good-held, held-taking, held-resting, opened-held, opened-sound, admissible-askable}
+use Rattle.desk.proofs.Reachable.{good-desk, good-held, held-taking, held-resting, opened-held, opened-sound, admissible-askable}
 
 -- the opening's lines and what its feeds come to are one: 12 and 8 of the list's length, then 2, 9 and 10 of the feeds
 same-lines : (a b c d e : Bool)

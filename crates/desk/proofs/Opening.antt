@@ -20,11 +20,12 @@ use Rattle.ledger.specs.Pieces.{arrived}
 use Rattle.ledger.proofs.Reading.{all-arrived-opened}
 use Rattle.desk.specs.declared.Desk.{Desk}
 use Rattle.desk.specs.declared.Answer.{Answer}
-use Rattle.desk.specs.declared.Refusal.the-variants.{Outside, PastLast, TooManyFeeds, RoundTooLong, TooMuchLoad, NotThree}
-use Rattle.desk.specs.declared.Verdict.{Verdict}
-use Rattle.desk.specs.declared.Verdict.the-variants.{Yes, No}
+use Rattle.refusals.specs.declared.Refusal.the-variants.{Outside, PastLast, TooManyFeeds, RoundTooLong, TooMuchLoad, NotThree}
+use Rattle.refusals.specs.declared.Verdict.{Verdict}
+use Rattle.refusals.specs.declared.Verdict.the-variants.{Yes, No}
 use Rattle.desk.specs.State.{empty, deskOf}
-use Rattle.desk.specs.Answers.{firstOf, onYes, verdictOf}
+use Rattle.refusals.specs.Refusals.{firstOf, onYes}
+use Rattle.desk.specs.Answers.{verdictOf}
 use Rattle.desk.specs.Opening.{notThree, tooMany, outside, roundTooLong, tooMuch, openLines, openedOf}
 
 -- lines 12 and 8 refuse

@@ -24,7 +24,7 @@ use Rattle.edf.specs.Calls as calls
 use Rattle.edf.specs.Load.{Opens, openedFeed, opened, Less}
 use Rattle.edf.specs.Kept as kept
 use Rattle.edf.specs.Kept.{Current}
-use Rattle.desk.specs.declared.Refusal.the-variants.{DoesNotFit}
+use Rattle.refusals.specs.declared.Refusal.the-variants.{DoesNotFit}
 use Rattle.edf.proofs.Kept.{job-is-kept, piece-is-kept, taken-is-live}
 use Rattle.edf.proofs.Service.{step-clock, Kin, Has, released-step, fresh-piece}
 use Rattle.edf.proofs.Follow.{job-busy, feed-busy}
@@ -36,17 +36,17 @@ use Rattle.desk.specs.declared.Desk.{Desk}
 use Rattle.desk.specs.declared.Answer.{Answer}
 use Rattle.desk.specs.declared.Ran.{Ran}
 use Rattle.desk.specs.declared.Ran.the-variants as ran
-use Rattle.desk.specs.declared.Verdict.{Verdict}
-use Rattle.desk.specs.declared.Verdict.the-variants.{Yes, No}
-use Rattle.desk.specs.State.{inOrder, book, deskOf, empty}
-use Rattle.desk.specs.Answers.{firstOf, onYes}
+use Rattle.refusals.specs.declared.Verdict.{Verdict}
+use Rattle.refusals.specs.declared.Verdict.the-variants.{Yes, No}
+use Rattle.desk.specs.State.{inOrder, book, deskOf, empty, Good}
+use Rattle.refusals.specs.Refusals.{firstOf, onYes}
 use Rattle.desk.specs.Opening.{tooMany, roundTooLong, tooMuch, openLines, openedOf}
 use Rattle.desk.specs.Calls.{disorder, stepLines, stepOf}
 use Rattle.desk.specs.Asking.{askLines, requested, with-job, Judged, Asked}
 use Rattle.desk.specs.Runs.{Call, ask, step, Right, after, run, AllRight, named, NotEnded, NotRested}
 use Rattle.desk.specs.Kept.{Live, HasLeft, JobKept, PieceKept}
 use Rattle.desk.proofs.Asking.{yes-is-not-no, all-pass, admissible}
-use Rattle.desk.proofs.Reachable.{Good, opened-is-good, opened-held, passing-opens, admissible-askable}
+use Rattle.desk.proofs.Reachable.{opened-is-good, opened-held, passing-opens, admissible-askable}
 use Rattle.desk.proofs.State.{book-of-desk}
 use Rattle.desk.proofs.Splits.{shadow-not-ended, shadow-not-rested, splits, shadows-append, shadows-step, right-front, right-and-step, live-read, live-written, last-answer}
 use Rattle.desk.proofs.Shadow.{ifYes, shadow, shadows, followed, FollowedRun, followed-run}

@@ -19,8 +19,8 @@ use Rattle.jobs.specs.Jobs.{mostJobs, noJob, live as liveJobs}
 use Rattle.edf.specs.Book.{Feed as BookFeed, Job as BookJob, Book, Who}
 use Rattle.edf.specs.Step.{runner, serveJob, serveFeed, serve, turnFeed, turn, stepBy, step}
 use Rattle.edf.specs.Calls.{taking, ending, restFeed, resting, Askable}
-use Rattle.edf.specs.Load.{Opens, openedFeed, opened}
-use Rattle.edf.proofs.Sound.{Sound, step-is-sound}
+use Rattle.edf.specs.Load.{Opens, openedFeed, opened, Sound}
+use Rattle.edf.proofs.Sound.{step-is-sound}
 use Rattle.edf.proofs.Calls.{ending-is-sound, resting-is-sound}
 use Rattle.edf.proofs.Opening.{opening-is-sound}
 use Rattle.ledger.specs.Reading.{bookFeeds, bookJob, feedOf, jobOf, Placed}
@@ -28,15 +28,9 @@ use Rattle.ledger.specs.InOrder.{JobHeld, Held}
 use Rattle.ledger.proofs.Reading.{placed, feeds-of-book}
 use Rattle.ledger.proofs.InOrder.{book-held, book-light, positions-once}
 use Rattle.desk.specs.declared.Desk.{Desk}
-use Rattle.desk.specs.State.{inOrder, book, deskOf, Sized}
+use Rattle.desk.specs.State.{inOrder, book, deskOf, Sized, Good}
 use Rattle.desk.specs.Asking.{with-job, Admissible}
 use Rattle.desk.proofs.State.{in-order, held-desk, book-of-desk}
-
--- a state in order whose book is sound: what every call from an opening onward hands back
-pub record Good (d : Desk) : Type 0 where
-  pub sized : Sized d
-  pub order : inOrder d ≡ true
-  pub sound : Sound (book d)
 
 -- a book that is sound and that a desk can hold is written as a good desk, and read back from it
 pub good-desk : (b : Book) → Held b → Sound b → Good (deskOf b)

@@ -16,18 +16,18 @@ use Rattle.edf.proofs.Follow.{job-busy, feed-busy}
 use Rattle.edf.proofs.Promises as edfPromises
 use Rattle.desk.specs.declared.Desk.{Desk}
 use Rattle.desk.specs.declared.Ran.{Ran}
-use Rattle.desk.specs.declared.Refusal.{Refusal}
+use Rattle.refusals.specs.declared.Refusal.{Refusal}
 use Rattle.desk.specs.declared.Ran.the-variants as ran
 use Rattle.serving.specs.Tick.{namedOf}
 use Rattle.edf.specs.Order.{InOrder}
-use Rattle.desk.specs.declared.Verdict.{Verdict}
-use Rattle.desk.specs.declared.Verdict.the-variants.{Yes, No}
-use Rattle.desk.specs.State.{book}
-use Rattle.desk.specs.Answers.{firstOf, ranIf}
+use Rattle.refusals.specs.declared.Verdict.{Verdict}
+use Rattle.refusals.specs.declared.Verdict.the-variants.{Yes, No}
+use Rattle.desk.specs.State.{book, Good}
+use Rattle.refusals.specs.Refusals.{firstOf}
+use Rattle.desk.specs.Answers.{ranIf}
 use Rattle.desk.specs.Calls.{stepLines, stepOf}
 use Rattle.desk.specs.Runs.{Call, step, run, AllRight, named}
 use Rattle.desk.specs.Kept.{Live, StillLive, PieceKept}
-use Rattle.desk.proofs.Reachable.{Good}
 use Rattle.desk.proofs.Splits.{shadows-append, shadows-step, right-and-step, live-written}
 use Rattle.desk.proofs.Shadow.{shadows, followed, followed-run}
 

@@ -12,7 +12,8 @@ use Rattle.edf.specs.Book as edf
 use Rattle.edf.specs.Fits.{Fits}
 use Rattle.edf.specs.Step as edfStep
 use Rattle.edf.specs.Calls as calls
-use Rattle.edf.proofs.Sound.{Sound, step-is-sound}
+use Rattle.edf.specs.Load.{Sound}
+use Rattle.edf.proofs.Sound.{step-is-sound}
 use Rattle.edf.proofs.Calls.{taking-is-sound, ending-is-sound, resting-is-sound}
 use Rattle.ticks.specs.declared.Length.{Length}
 use Rattle.ledger.specs.Reading.{bookJob}
@@ -22,18 +23,19 @@ use Rattle.serving.specs.Front.{whoIs}
 use Rattle.serving.specs.Tick.{namedOf}
 use Rattle.desk.specs.declared.Desk.{Desk}
 use Rattle.desk.specs.declared.Answer.{Answer}
-use Rattle.desk.specs.declared.Refusal.{Refusal}
-use Rattle.desk.specs.declared.Verdict.{Verdict}
-use Rattle.desk.specs.declared.Verdict.the-variants.{Yes, No}
-use Rattle.desk.specs.State.{book, deskOf}
-use Rattle.desk.specs.Answers.{Line, firstOf, onYes, ranBy, ranIf}
+use Rattle.refusals.specs.declared.Refusal.{Refusal}
+use Rattle.refusals.specs.declared.Verdict.{Verdict}
+use Rattle.refusals.specs.declared.Verdict.the-variants.{Yes, No}
+use Rattle.desk.specs.State.{book, deskOf, Good}
+use Rattle.refusals.specs.Refusals.{Line, firstOf, onYes}
+use Rattle.desk.specs.Answers.{ranBy, ranIf}
 use Rattle.desk.specs.Calls.{disorder, stepLines, stepOf, endLines, endOf, restLines, restOf}
-use Rattle.desk.specs.declared.Refusal.the-variants.{DoesNotFit, NotInOrder}
+use Rattle.refusals.specs.declared.Refusal.the-variants.{DoesNotFit, NotInOrder}
 use Rattle.desk.specs.Asking.{askLines, requested, with-job, Admissible, Judged, Asked}
 use Rattle.desk.specs.Runs.{Call, ask, step, end, rest, look, Right, after, run, AllRight, whoRan, names, named}
 use Rattle.desk.proofs.State.{book-of-desk}
 use Rattle.desk.proofs.Asking.{all-pass, admissible}
-use Rattle.desk.proofs.Reachable.{Good, good-desk, good-held, held-step, held-ending, held-resting, held-taking, admissible-askable}
+use Rattle.desk.proofs.Reachable.{good-desk, good-held, held-step, held-ending, held-resting, held-taking, admissible-askable}
 
 -- nothing happens: an ask for no work, refused
 abbrev pub nothing : calls.Call

@@ -18,10 +18,11 @@ use Rattle.ledger.specs.Reading.{bookJob}
 use Rattle.serving.specs.Tick.{namedOf}
 use Rattle.desk.specs.declared.Desk.{Desk}
 use Rattle.desk.specs.declared.Ran.the-variants as ran
-use Rattle.desk.specs.declared.Verdict.{Verdict}
-use Rattle.desk.specs.declared.Verdict.the-variants.{Yes, No}
+use Rattle.refusals.specs.declared.Verdict.{Verdict}
+use Rattle.refusals.specs.declared.Verdict.the-variants.{Yes, No}
 use Rattle.desk.specs.State.{book}
-use Rattle.desk.specs.Answers.{firstOf, ranIf}
+use Rattle.refusals.specs.Refusals.{firstOf}
+use Rattle.desk.specs.Answers.{ranIf}
 use Rattle.desk.specs.Calls.{stepLines, stepOf, endLines, restLines}
 use Rattle.desk.specs.Asking.{requested}
 use Rattle.desk.specs.Runs.{Call, ask, step, end, rest, look, Right, after, run, AllRight, NotEnded, NotRested}

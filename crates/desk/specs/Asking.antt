@@ -15,10 +15,10 @@ use Rattle.edf.specs.Calls.{taking}
 use Rattle.ledger.specs.Reading.{bookJob}
 use Rattle.desk.specs.declared.Desk.{Desk}
 use Rattle.desk.specs.declared.Answer.{Answer}
-use Rattle.desk.specs.declared.Refusal.{Refusal}
-use Rattle.desk.specs.declared.Refusal.the-variants.{NumberZero, Outside, PastLast, NumberLive, Full, DoesNotFit}
-use Rattle.desk.specs.declared.Verdict.the-variants.{Yes, No}
-use Rattle.desk.specs.Answers.{Line, line, firstOf}
+use Rattle.refusals.specs.declared.Refusal.{Refusal}
+use Rattle.refusals.specs.declared.Refusal.the-variants.{NumberZero, Outside, PastLast, NumberLive, Full, DoesNotFit}
+use Rattle.refusals.specs.declared.Verdict.the-variants.{Yes, No}
+use Rattle.refusals.specs.Refusals.{Line, line, firstOf}
 use Rattle.desk.specs.Calls.{disorder}
 use Rattle.desk.specs.State.{inOrder, book, deskOf, Sized}
 

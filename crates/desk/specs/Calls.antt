@@ -20,10 +20,11 @@ use Rattle.desk.specs.declared.Counted.{Counted}
 use Rattle.desk.specs.declared.Counted.the-variants as counted
 use Rattle.desk.specs.declared.Answer.{Answer}
 use Rattle.desk.specs.declared.Stepped.{Stepped}
-use Rattle.desk.specs.declared.Refusal.the-variants.{PastLast, NothingThere, ShortBuffer, NotInOrder}
-use Rattle.desk.specs.declared.Verdict.{Verdict}
-use Rattle.desk.specs.declared.Verdict.the-variants.{Yes, No}
-use Rattle.desk.specs.Answers.{Line, line, firstOf, onYes, ranIf, answered}
+use Rattle.refusals.specs.declared.Refusal.the-variants.{PastLast, NothingThere, ShortBuffer, NotInOrder}
+use Rattle.refusals.specs.declared.Verdict.{Verdict}
+use Rattle.refusals.specs.declared.Verdict.the-variants.{Yes, No}
+use Rattle.refusals.specs.Refusals.{Line, line, firstOf, onYes}
+use Rattle.desk.specs.Answers.{ranIf, answered}
 use Rattle.desk.specs.State.{inOrder, book, deskOf}
 
 -- a state that is not in order (13)

@@ -5,7 +5,7 @@ use mathlib.Core.List.{List, [], _∷_}
 use Prim.Native.Nat.{ℕ}
 use Rattle.desk.specs.declared.Desk.{Desk}
 use Rattle.desk.specs.declared.Answer.{Answer}
-use Rattle.desk.specs.Answers.{answerOf}
+use Rattle.refusals.specs.Refusals.{answerOf}
 use Rattle.desk.specs.Opening.{openedOf}
 use Rattle.desk.specs.Calls.{restOf}
 use Rattle.desk.specs.Asking.{Asked}

@@ -13,8 +13,9 @@ use Rattle.feeds.specs.Lines.{feedsIn}
 use Rattle.ledger.specs.Reading.{bookFeeds}
 use Rattle.edf.specs.Load.{opened}
 use Rattle.desk.specs.declared.Answer.{Answer}
-use Rattle.desk.specs.declared.Refusal.the-variants.{Outside, PastLast, TooManyFeeds, RoundTooLong, TooMuchLoad, NotThree}
-use Rattle.desk.specs.Answers.{Line, line, answered}
+use Rattle.refusals.specs.declared.Refusal.the-variants.{Outside, PastLast, TooManyFeeds, RoundTooLong, TooMuchLoad, NotThree}
+use Rattle.refusals.specs.Refusals.{Line, line}
+use Rattle.desk.specs.Answers.{answered}
 use Rattle.desk.specs.State.{empty, deskOf}
 
 -- three numbers a feed (12)

@@ -1,6 +1,6 @@
 -- The state of a box: when it is in order, and how it is read as a book of the mathematics and written from one.
 use mathlib.Core.Path.{_≡_}
-use mathlib.Core.Bool.{Bool}
+use mathlib.Core.Bool.{Bool, true}
 use mathlib.Core.List.{[], _∷_, map}
 use lib.ListN.{length}
 use Rattle.lists.specs.Lists.{allOf, every}
@@ -11,6 +11,7 @@ use Rattle.ledger.specs.Reading.{bookOf, feedOf, jobOf}
 use Rattle.ledger.specs.Pieces.{pieceIn}
 use Rattle.ledger.specs.InOrder.{InOrder}
 use Rattle.edf.specs.Book.{Book}
+use Rattle.edf.specs.Load.{Sound}
 use Rattle.desk.specs.declared.Desk.{Desk}
 
 -- the empty state: clock 0, no feeds, no jobs
@@ -50,3 +51,9 @@ pub record Sized (d : Desk) : Type 0 where
 -- the parts of the desk are in order
 abbrev pub DeskInOrder : Desk → Type 0
 DeskInOrder d = InOrder (d .clock) (liveFeeds (d .feeds)) (liveJobs (d .table))
+
+-- a state in order whose book is sound: what every call from an opening onward hands back
+pub record Good (d : Desk) : Type 0 where
+  pub sized : Sized d
+  pub order : inOrder d ≡ true
+  pub sound : Sound (book d)

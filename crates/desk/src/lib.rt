@@ -7,6 +7,8 @@ use jobs::Job;
 use jobs::Table;
 use listing::Part;
 use listing::Runner;
+use refusals::Refusal;
+use refusals::Verdict;
 use serving::Named;
 use serving::Who;
 use ticks::Instant;
@@ -22,7 +24,8 @@ ghost use Rattle.jobs.specs.Jobs.{mostJobs};
 ghost use Rattle.listing.specs.Labels.{labelOf, PartAt};
 ghost use Rattle.feeds.specs.declared.Listed.the-variants.{Fine};
 ghost use Rattle.desk.specs.State.{inOrder, empty};
-ghost use Rattle.desk.specs.Answers.{firstOf, verdictOf, ranOf};
+ghost use Rattle.refusals.specs.Refusals.{firstOf};
+ghost use Rattle.desk.specs.Answers.{verdictOf, ranOf};
 ghost use Rattle.desk.specs.Opening.{openedOf};
 ghost use Rattle.desk.specs.Calls.{stepOf, endOf, restOf, countedOf, listedOf, runnerOf};
 ghost use Rattle.desk.specs.Asking.{askLines, fullLine, Admissible, Judged, Asked};
@@ -33,28 +36,6 @@ pub struct Desk {
     pub clock: Instant,
     pub feeds: Feeds,
     pub table: Table,
-}
-
-// Why a call is refused, one case for each number of the rules.
-pub enum Refusal {
-    NumberZero,
-    Outside,
-    PastLast,
-    NumberLive,
-    Full,
-    DoesNotFit,
-    NothingThere,
-    TooManyFeeds,
-    RoundTooLong,
-    TooMuchLoad,
-    ShortBuffer,
-    NotThree,
-    NotInOrder,
-}
-
-pub enum Verdict {
-    Yes,
-    No(Refusal),
 }
 
 // The state that a call hands back, and its answer.

@@ -5,10 +5,10 @@ use native.Mathlib.Omega.{arith}
 use lib.ListN.{length, take, drop, take-append-drop, length-append}
 use Rattle.jobs.specs.Jobs.{mostJobs, live}
 use Rattle.desk.specs.declared.Desk.{Desk}
-use Rattle.desk.specs.declared.Verdict.{Verdict}
-use Rattle.desk.specs.declared.Verdict.the-variants.{Yes, No}
+use Rattle.refusals.specs.declared.Verdict.{Verdict}
+use Rattle.refusals.specs.declared.Verdict.the-variants.{Yes, No}
 use Rattle.desk.specs.declared.Counted.the-variants.{Jobs}
-use Rattle.desk.specs.Answers.{firstOf}
+use Rattle.refusals.specs.Refusals.{firstOf}
 use Rattle.desk.specs.Calls.{listLines, countIf, countedOf}
 use Rattle.desk.proofs.Asking.{asked-once}
 use Rattle.desk_c.specs.declared.Answer.{Answer}

@@ -9,7 +9,7 @@ use Rattle.desk.specs.declared.Ran.{Ran}
 use Rattle.desk.specs.declared.Ran.the-variants as ran
 use Rattle.desk.specs.declared.Counted.{Counted}
 use Rattle.desk.specs.declared.Counted.the-variants as counted
-use Rattle.desk.specs.Answers.{numberOf, answerOf}
+use Rattle.refusals.specs.Refusals.{numberOf, answerOf}
 use Rattle.desk.specs.Asking.{Asked}
 use Rattle.desk_c.specs.declared.Answer.{Answer}
 use Rattle.desk_c.specs.declared.Stepped.{Stepped}

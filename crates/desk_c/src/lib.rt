@@ -3,12 +3,10 @@
 use desk::Counted;
 use desk::Desk;
 use desk::Ran;
-use desk::Refusal;
-use desk::Verdict;
 ghost use mathlib.Core.Path.{_≡_};
 ghost use lib.ListN.{length};
 ghost use Rattle.listing.specs.Labels.{labelOf};
-ghost use Rattle.desk.specs.Answers.{numberOf, answerOf};
+ghost use Rattle.refusals.specs.Refusals.{numberOf, answerOf};
 ghost use Rattle.desk.specs.Opening.{openedOf};
 ghost use Rattle.desk.specs.Calls.{stepOf, endOf, restOf, countedOf, listedOf, runnerOf};
 ghost use Rattle.desk_c.specs.Flat.{flatAnswer, flatStep, flatCount, flatPart, AskedFlat};
@@ -46,38 +44,14 @@ pub struct Label {
     pub size: usize,
 }
 
-// The number that the rules give a refusal.
-fn number_of(refusal: Refusal) -> u32
-    ensures { λ r. ⌜ r ≡ numberOf refusal ⌝ }
-{
-    match refusal {
-        Refusal::NumberZero => 1,
-        Refusal::Outside => 2,
-        Refusal::PastLast => 3,
-        Refusal::NumberLive => 4,
-        Refusal::Full => 5,
-        Refusal::DoesNotFit => 6,
-        Refusal::NothingThere => 7,
-        Refusal::TooManyFeeds => 8,
-        Refusal::RoundTooLong => 9,
-        Refusal::TooMuchLoad => 10,
-        Refusal::ShortBuffer => 11,
-        Refusal::NotThree => 12,
-        Refusal::NotInOrder => 13,
-    }
-}
-
 fn flat_answer(answer: desk::Answer) -> Answer
     ensures { λ r. ⌜ r ≡ flatAnswer answer ⌝ }
 {
     let desk = answer.desk;
     let verdict = answer.verdict;
-    match verdict {
-        Verdict::Yes => Answer { desk, refusal: 0 },
-        Verdict::No(refusal) => Answer {
-            desk,
-            refusal: number_of(refusal),
-        },
+    Answer {
+        desk,
+        refusal: verdict.answer(),
     }
 }
 
@@ -110,7 +84,7 @@ fn flat_step(stepped: desk::Stepped) -> Stepped
         },
         Ran::No(refusal) => Stepped {
             desk,
-            refusal: number_of(refusal),
+            refusal: refusal.number(),
             kind: 0,
             number: 0,
             owes: 0,
@@ -169,7 +143,7 @@ pub extern "C" fn desk_list(desk: Desk, buffer: &mut [u64]) -> Listed
             count: count as u32,
         },
         Counted::No(refusal) => Listed {
-            refusal: number_of(refusal),
+            refusal: refusal.number(),
             count: 0,
         },
     }

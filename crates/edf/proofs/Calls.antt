@@ -18,7 +18,8 @@ use Rattle.lists.proofs.Lists.{each, each-imp, each-append, each-map, each-keep
 use Rattle.lists.proofs.Tests.{eqb-elim, eq-elim}
 use Rattle.edf.proofs.Demand.{byThen-mono, feedOwes}
 use Rattle.edf.proofs.Tick.{owedBy-split}
-use Rattle.edf.proofs.Sound.{Sound, light-map, step-is-sound}
+use Rattle.edf.specs.Load.{Sound}
+use Rattle.edf.proofs.Sound.{light-map, step-is-sound}
 use Rattle.edf.proofs.Counted.{fits-has-room}
 
 pub taking-in-order : (b : Book) (j : Job) → InOrder b → Askable b j → InOrder (taking j b)

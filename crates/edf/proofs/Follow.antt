@@ -21,7 +21,8 @@ use Rattle.edf.proofs.Names.{same-elim, same-refl}
 use Rattle.edf.proofs.Releases.{since-suc}
 use Rattle.edf.proofs.Demand.{turned-kept}
 use Rattle.edf.proofs.Runner.{Best, Nothing, foremost-best, runner-edf}
-use Rattle.edf.proofs.Sound.{Sound, served-due}
+use Rattle.edf.specs.Load.{Sound}
+use Rattle.edf.proofs.Sound.{served-due}
 use Rattle.edf.proofs.Counted.{once}
 
 -- the runner, where it is the owner of a piece at hand, is that piece, and ready

@@ -17,7 +17,8 @@ use Rattle.edf.specs.Kept.{LiveJob, Live, HasLeft, JobKept, AtPiece, Cur
 use Rattle.lists.proofs.Lists.{each-at, some-imp, some-pick, some-left, some-right, some-map, some-keep}
 use Rattle.lists.proofs.Tests.{eqb-elim}
 use Rattle.edf.proofs.Names.{same-is, same-le}
-use Rattle.edf.proofs.Sound.{Sound, step-is-sound}
+use Rattle.edf.specs.Load.{Sound}
+use Rattle.edf.proofs.Sound.{step-is-sound}
 use Rattle.edf.proofs.Follow.{Free, ranNow, runner-is, job-named, feed-named, job-step, feed-step, feed-due, hand-job, job-busy}
 use Rattle.edf.proofs.Service.{step-clock}
 use Rattle.edf.proofs.Calls.{after-is-sound}

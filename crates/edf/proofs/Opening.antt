@@ -10,13 +10,13 @@ use Rattle.edf.specs.Book.{Feed}
 use Rattle.edf.specs.Releases.{gone, currentDue}
 use Rattle.edf.specs.Owed.{byThen, laterBy, Room}
 use Rattle.edf.specs.Order.{FeedInOrder}
-use Rattle.edf.specs.Load.{stretch, Light, openedFeed, opened}
+use Rattle.edf.specs.Load.{stretch, Light, openedFeed, opened, Sound}
 use Rattle.lists.proofs.Lists.{each-imp, each-map, total-mono, total-map}
 use Rattle.lists.proofs.Tests.{eqb-elim}
 use Rattle.edf.proofs.Releases.{since-lt, since-early}
 use Rattle.edf.proofs.Demand.{byThen-le, feedOwes, piece-and-later, div-mono}
 use Rattle.edf.proofs.Tick.{owedBy-split}
-use Rattle.edf.proofs.Sound.{Sound, Shape, light-map}
+use Rattle.edf.proofs.Sound.{Shape, light-map}
 
 opened-owes : (t D : ℕ) (f : Feed) → Shape f → t < D → feedOwes t D (openedFeed t f) ≤ stretch (D - t) f
 opened-owes t D f s h =

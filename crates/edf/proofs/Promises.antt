@@ -12,12 +12,12 @@ use Rattle.edf.specs.Fits.{Fits}
 use Rattle.edf.specs.Step.{owing, runner, ran, step}
 use Rattle.edf.specs.Order.{InOrder}
 use Rattle.edf.specs.Calls.{taking, ending, restFeed, resting, Askable, Call, asked, stepped, ended, rested, after, run, AllRight, names, named, NotEnded, NotRested}
-use Rattle.edf.specs.Load.{Opens, openedFeed, opened, Less}
+use Rattle.edf.specs.Load.{Opens, openedFeed, opened, Less, Sound}
 use Rattle.edf.specs.Kept.{LiveJob, StillLive, JobKept, AtPiece, Current, PieceKept}
 use Rattle.lists.proofs.Lists.{each-at, some-imp, some-map, some-pick}
 use Rattle.lists.proofs.Tests.{eqb-elim}
 use Rattle.edf.proofs.Names.{same-refl}
-use Rattle.edf.proofs.Sound.{Sound, step-is-sound}
+use Rattle.edf.proofs.Sound.{step-is-sound}
 use Rattle.edf.proofs.Follow.{ranNow, runner-is, hand-job, hand-feed, job-busy, feed-busy}
 use Rattle.edf.proofs.Service.{step-clock, Kin, Has, has-step, released-step, fresh-piece}
 use Rattle.edf.proofs.Opening.{opening-is-sound}

@@ -22,7 +22,8 @@ use Rattle.edf.proofs.Names.{same-not}
 use Rattle.edf.proofs.Releases.{since-lt, since-later}
 use Rattle.edf.proofs.Demand.{turned-released}
 use Rattle.edf.proofs.Runner.{Best, Nothing, foremost-best}
-use Rattle.edf.proofs.Sound.{Sound, step-is-sound}
+use Rattle.edf.specs.Load.{Sound}
+use Rattle.edf.proofs.Sound.{step-is-sound}
 use Rattle.edf.proofs.Tick.{hand-each}
 use Rattle.edf.specs.Kept.{LiveJob, Live, AtPiece, Current}
 use Rattle.edf.proofs.Follow.{Free, ranNow, job-named, feed-named, job-step, feed-step, feed-due, job-busy}

@@ -15,7 +15,7 @@ use Rattle.edf.specs.Pieces.{jobPiece}
 use Rattle.edf.specs.Owed.{byThen, dueBy, owedBy, Room}
 use Rattle.edf.specs.Step.{owing, serveJob, serveFeed, serve, turned, turnFeed, turn, stepBy, step, runner, Edf}
 use Rattle.edf.specs.Order.{FeedInOrder, JobInOrder, InOrder}
-use Rattle.edf.specs.Load.{stretch, Light}
+use Rattle.edf.specs.Load.{stretch, Light, Sound}
 use Rattle.lists.proofs.Lists.{each, each-imp, each-map, each-keep, each-of-total-zero, total-zero, total-map, total-same, total-keep-le}
 use Rattle.lists.proofs.Tests.{ltb-says}
 use Rattle.edf.proofs.Releases.{since-early, since-suc}
@@ -31,11 +31,6 @@ use Rattle.edf.proofs.Demand.{
 }
 use Rattle.edf.proofs.Tick.{owedBy-split, owedBy-turn, tick-leaves-room}
 use Rattle.edf.proofs.Runner.{runner-edf}
-
-pub record Sound (b : Book) : Type 0 where
-  pub order : InOrder b
-  pub room : Room b
-  pub light : Light (b .feeds)
 
 abbrev pub Shape : Feed → Type 0
 Shape f = (f .offset < f .period) × (1 ≤ f .lead) × (f .lead ≤ f .period)

@@ -7,7 +7,9 @@ use lib.Dec.{eqb}
 use Rattle.lists.specs.Lists.{eq, total, Each, Some, Pairs}
 use Rattle.edf.specs.Book.{Feed, Job, Book}
 use Rattle.edf.specs.Releases.{gone, next}
+use Rattle.edf.specs.Owed.{Room}
 use Rattle.edf.specs.Step.{owing}
+use Rattle.edf.specs.Order.{InOrder}
 
 -- the most that the pieces of a feed that are released and due within L ticks can want
 abbrev pub stretch : ℕ → Feed → ℕ
@@ -16,6 +18,12 @@ stretch L f = f .work * ((L + f .period - f .lead) / f .period)
 -- the feeds alone never want more than there is time
 unfoldable pub Light : List Feed → Type 0
 Light fs = (L : ℕ) → total (stretch L) fs ≤ L
+
+-- a sound book: it is in order and has room, and its feeds alone never want more than there is time
+pub record Sound (b : Book) : Type 0 where
+  pub order : InOrder b
+  pub room : Room b
+  pub light : Light (b .feeds)
 
 -- what a feed wants in a round of R ticks
 abbrev pub aRound : ℕ → Feed → ℕ

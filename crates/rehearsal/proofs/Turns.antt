@@ -1,42 +1,34 @@
 -- Laws on the turns of a rehearsal.
-use mathlib.Core.List.{List}
-use lib.ListN.{length}
-use Prim.Native.Nat.{_<_, _≤_}
+use mathlib.Core.List.{List, []}
+use lib.ListN.{length, take}
+use Prim.Native.Nat.{_<_, _≤_, _*_, ℕ, _-_}
 use Rattle.words.specs.declared.Found.{Found}
 use Rattle.words.specs.Fields.{lineEnd, newline}
 use Rattle.words.proofs.Fields.{found-at}
 use Rattle.desk.specs.declared.Ran.the-variants as ran
-use Rattle.desk.specs.Calls.{stepOf}
+use Rattle.desk.specs.Calls.{stepOf, stepLines}
 use Rattle.rehearsal.specs.declared.Place.{Place}
 use Rattle.rehearsal.specs.declared.Read.{Read}
-use Rattle.rehearsal.specs.Hearing.{Answers, HeardTo}
-use Rattle.rehearsal.specs.Session.{tickOf}
-use mathlib.Core.Path.{subst}
-use mathlib.Core.Bool.{cond}
-use mathlib.Core.List.{[]}
+use Rattle.rehearsal.specs.Hearing.{Answers, HeardTo, Heard}
+use Rattle.rehearsal.specs.Session.{tickOf, feedOf, goOf, endOf, restOf, runOf, mostFeedLines, badOf, turn, fed, goneOf, callOf, stoppedOf, withDesk, withLeft, ranOf, steppedOf}
+use mathlib.Core.Path.{subst, refl, _≡_, sym, ap, _∙_}
+use mathlib.Core.Bool.{cond, _||_, not, Bool, true, false}
 use Rattle.lists.specs.Lists.{every}
 use Rattle.feeds.specs.Round.{roundOf, firstFrom}
 use Rattle.feeds.specs.Lines.{feedsIn}
 use Rattle.ledger.specs.Reading.{bookFeeds}
 use Rattle.edf.specs.Load.{opened}
 use Rattle.words.specs.declared.Line.{Line}
-use Rattle.desk.specs.declared.Verdict.{Verdict}
-use Rattle.desk.specs.declared.Verdict.the-variants.{Yes, No}
-use Rattle.desk.specs.State.{empty}
-use Rattle.desk.specs.Answers.{firstOf, onYes}
+use Rattle.refusals.specs.declared.Verdict.{Verdict}
+use Rattle.refusals.specs.declared.Verdict.the-variants.{Yes, No}
+use Rattle.desk.specs.State.{empty, book, deskOf, Good}
+use Rattle.refusals.specs.Refusals.{firstOf, onYes}
 use Rattle.desk.specs.Opening.{openLines, openedOf}
 use Rattle.desk.proofs.Promises.{an-opening-is-good}
 use Rattle.rehearsal.specs.declared.Turn.{Turn}
-use Rattle.rehearsal.specs.Hearing.{Heard}
-use Rattle.rehearsal.specs.Session.{feedOf, goOf, endOf, restOf, runOf}
-use mathlib.Core.Bool.{_||_}
 use lib.Dec.{leb, ltb}
-use lib.ListN.{take}
-use Prim.Native.Nat.{_*_}
 use Rattle.desk.specs.Calls as calls
 use Rattle.rehearsal.specs.declared.Said.{Said}
-use Rattle.rehearsal.specs.Session.{mostFeedLines, badOf, turn, fed, goneOf, callOf}
-use mathlib.Core.Bool.{not}
 use borrow.Author.Tests.{lt-ltb, le-ltb}
 use Rattle.ticks.specs.Ticks.{lastInstant}
 use Rattle.feeds.specs.Feeds.{live as liveFeeds}
@@ -45,26 +37,17 @@ use Rattle.edf.specs.Step as edf
 use Rattle.serving.specs.declared.Ticked.{Ticked}
 use Rattle.serving.specs.Tick.{namedOf, tickedOf}
 use Rattle.desk.specs.declared.Desk.{Desk}
-use Rattle.desk.specs.declared.Refusal.the-variants.{PastLast}
-use Rattle.desk.specs.State.{book, deskOf}
+use Rattle.refusals.specs.declared.Refusal.the-variants.{PastLast}
 use Rattle.desk.specs.Answers.{ranOf as ranIn}
-use Rattle.desk.specs.Calls.{stepLines}
 use Rattle.desk.specs.Runs.{Right, after}
 use Rattle.desk.specs.Runs as runs
-use Rattle.desk.proofs.Answers.{stops, goes-on, no-line, step-refused, step-taken}
-use Rattle.desk.proofs.Reachable.{Good}
+use Rattle.refusals.proofs.Refusals.{stops, goes-on, no-line}
+use Rattle.desk.proofs.Answers.{step-refused, step-taken}
 use Rattle.desk.proofs.Shadow.{followed}
-use Rattle.rehearsal.specs.Session.{stoppedOf}
-use mathlib.Core.Path.{refl}
-use mathlib.Core.Path.{_≡_, sym, ap, _∙_}
-use mathlib.Core.Bool.{Bool, true, false}
-use Prim.Native.Nat.{ℕ}
 use native.Mathlib.Omega.{arith}
 use Rattle.desk.specs.declared.Stepped.{Stepped}
 use Rattle.desk.specs.declared.Ran.{Ran}
 use Rattle.rehearsal.specs.declared.Session.{Session}
-use Rattle.rehearsal.specs.Session.{withDesk, withLeft, ranOf, steppedOf}
-use Prim.Native.Nat.{_-_}
 
 pub never : (b : Bool) → b ≡ true → b ≡ false → ⊥
 never b p q = let z : true ≡ false = sym p ∙ q in let o : _≡_ {A = ℕ} 0 1 = cc in omega arith

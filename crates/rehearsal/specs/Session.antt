@@ -8,8 +8,8 @@ use Rattle.desk.specs.declared.Answer.{Answer}
 use Rattle.desk.specs.declared.Stepped.{Stepped}
 use Rattle.desk.specs.declared.Ran.{Ran}
 use Rattle.desk.specs.declared.Ran.the-variants as ran
-use Rattle.desk.specs.declared.Refusal.{Refusal}
-use Rattle.desk.specs.Answers.{numberOf, answerOf}
+use Rattle.refusals.specs.declared.Refusal.{Refusal}
+use Rattle.refusals.specs.Refusals.{numberOf, answerOf}
 use Rattle.desk.specs.State.{empty}
 use Rattle.desk.specs.Opening.{openedOf}
 use Rattle.desk.specs.Calls as desk

@@ -1,8 +1,7 @@
 // The rehearsal: a session over the desk that hears one line after another and tells what each answers.
 // It must not know input and output: the text is lent to it, and so is the buffer that its answers go into.
 use desk::Desk;
-use desk::Refusal;
-use desk::Verdict;
+use refusals::Refusal;
 use serving::Who;
 use ticks::Instant;
 use words::Found;
@@ -10,8 +9,7 @@ use words::Line;
 ghost use mathlib.Core.Path.{_≡_};
 ghost use Prim.Native.Nat.{_≤_, _<_, _^_};
 ghost use lib.ListN.{length};
-ghost use Rattle.desk.specs.Answers.{numberOf as numberFor, answerOf as answerFor};
-ghost use Rattle.desk.proofs.Reachable.{Good};
+ghost use Rattle.desk.specs.State.{Good};
 ghost use Rattle.rehearsal.specs.Session.{begun, badOf, feedOf, goOf, endOf, restOf, runOf, tickOf, stoppedOf};
 ghost use Rattle.rehearsal.specs.Hearing.{AskOf, Heard, Answers};
 
@@ -63,37 +61,6 @@ impl Place {
 pub struct Read {
     pub turn: Turn,
     pub place: Place,
-}
-
-// The number of a refusal.
-fn number_of(refusal: Refusal) -> u32
-    ensures { λ r. ⌜ r ≡ numberFor refusal ⌝ }
-{
-    match refusal {
-        Refusal::NumberZero => 1,
-        Refusal::Outside => 2,
-        Refusal::PastLast => 3,
-        Refusal::NumberLive => 4,
-        Refusal::Full => 5,
-        Refusal::DoesNotFit => 6,
-        Refusal::NothingThere => 7,
-        Refusal::TooManyFeeds => 8,
-        Refusal::RoundTooLong => 9,
-        Refusal::TooMuchLoad => 10,
-        Refusal::ShortBuffer => 11,
-        Refusal::NotThree => 12,
-        Refusal::NotInOrder => 13,
-    }
-}
-
-// 0 for a yes, else the refusal's number.
-fn answer_of(verdict: Verdict) -> u32
-    ensures { λ r. ⌜ r ≡ answerFor verdict ⌝ }
-{
-    match verdict {
-        Verdict::Yes => 0,
-        Verdict::No(refusal) => number_of(refusal),
-    }
 }
 
 impl Session {
@@ -161,7 +128,7 @@ impl Session {
         let answer = Desk::open(&list[..numbers], start);
         let desk = answer.desk;
         let verdict = answer.verdict;
-        let number = answer_of(verdict);
+        let number = verdict.answer();
         let mut session = self;
         session.desk = desk;
         session.opened = true;
@@ -181,7 +148,7 @@ impl Session {
         let answer = self.desk.ask(number, work, lead);
         let desk = answer.desk;
         let verdict = answer.verdict;
-        let refusal = answer_of(verdict);
+        let refusal = verdict.answer();
         let mut session = self;
         session.desk = desk;
         Turn {
@@ -199,7 +166,7 @@ impl Session {
         let answer = self.desk.end(number);
         let desk = answer.desk;
         let verdict = answer.verdict;
-        let refusal = answer_of(verdict);
+        let refusal = verdict.answer();
         let mut session = self;
         session.desk = desk;
         Turn {
@@ -217,7 +184,7 @@ impl Session {
         let answer = self.desk.rest(position);
         let desk = answer.desk;
         let verdict = answer.verdict;
-        let refusal = answer_of(verdict);
+        let refusal = verdict.answer();
         let mut session = self;
         session.desk = desk;
         Turn {
@@ -306,7 +273,7 @@ impl Session {
         session.left = 0;
         Turn {
             session,
-            said: Said::Stopped(number_of(refusal)),
+            said: Said::Stopped(refusal.number()),
         }
     }
 

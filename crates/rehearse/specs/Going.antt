@@ -4,7 +4,7 @@ use Prim.Native.Nat.{ℕ, _≤_, _<_}
 use lib.ListN.{length}
 use Rattle.rehearsal.specs.declared.Session.{Session}
 use Rattle.rehearsal.specs.Texts.{mostText}
-use Rattle.desk.proofs.Reachable.{Good}
+use Rattle.desk.specs.State.{Good}
 use Rattle.rehearse.specs.declared.Going.{Going}
 
 -- the desk is as a call hands it back, and the buffer has room for an answer once what waits is written

@@ -25,8 +25,8 @@ cast-t9 c =
 enum-known-refusal : tie.Need-enum-known-refusal
 enum-known-refusal c = search needs
 
-number-of-requires : tie.Need-number-of-requires
-number-of-requires c κs = search needs
+number-requires : tie.Need-number-requires
+number-requires c κs = search needs
 
 same-length : tie.Need-same-length
 same-length c = search needs
@@ -42,7 +42,7 @@ same-length-2 c = search needs
 returns-2 : tie.Need-returns-2
 returns-2 c =
     let l = c .before .before .before .before .before .before .list in (
-      (λ i. record { refusal = c .number-of .ensures i; count = 0 }) ∙ ap flatCount (sym (c .before .before .refusal .given .1) ∙ l .ensures .0),
+      (λ i. record { refusal = c .number .ensures i; count = 0 }) ∙ ap flatCount (sym (c .before .before .refusal .given .1) ∙ l .ensures .0),
       l .ensures .1,
     )
 
@@ -54,7 +54,7 @@ desk-list-spec =
     enum-known-count
     cast-t9
     enum-known-refusal
-    number-of-requires
+    number-requires
     same-length
     returns
     same-length-2

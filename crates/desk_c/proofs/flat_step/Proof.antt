@@ -17,8 +17,8 @@ enum-told c = search needs
 enum-known-ran-3 : tie.Need-enum-known-ran-3
 enum-known-ran-3 c = search needs
 
-number-of-requires : tie.Need-number-of-requires
-number-of-requires c κs = search needs
+number-requires : tie.Need-number-requires
+number-requires c κs = search needs
 
 returns : tie.Need-returns
 returns c = ap (steppedBy (c .before .before .before .before .args .stepped .desk)) (sym (c .before .ran .given .1))
@@ -32,7 +32,7 @@ returns-3 c = ap (steppedBy (c .before .before .before .args .stepped .desk)) (s
 returns-4 : tie.Need-returns-4
 returns-4 c =
     let d = c .before .before .before .before .before .args .stepped .desk in
-    (λ i. record { desk = d; refusal = c .number-of .ensures i; kind = 0; number = 0; owes = 0 }) ∙ ap (steppedBy d) (sym (c .before .before .ran3 .given .1))
+    (λ i. record { desk = d; refusal = c .number .ensures i; kind = 0; number = 0; owes = 0 }) ∙ ap (steppedBy d) (sym (c .before .before .ran3 .given .1))
 
 pub flat-step-spec : {M : Type 1} → statement M
 flat-step-spec =
@@ -42,7 +42,7 @@ flat-step-spec =
     enum-known-ran-2
     enum-told
     enum-known-ran-3
-    number-of-requires
+    number-requires
     returns
     returns-2
     returns-3

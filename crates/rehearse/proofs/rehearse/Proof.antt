@@ -1,8 +1,7 @@
-use mathlib.Core.Path.{subst, sym}
-use Rattle.desk.proofs.Reachable.{Good}
+use mathlib.Core.Path.{subst, sym, _≡_, refl}
+use Rattle.desk.specs.State.{Good}
 use Rattle.rehearsal.proofs.Turns.{empty-is-good}
 use Rattle.rehearse.specs.Going.{Filled}
-use mathlib.Core.Path.{_≡_, refl}
 use Prim.Native.Nat.{_≤_, _-_}
 use lib.ListN.{length, length-take}
 use native.Mathlib.Omega.{arith}

@@ -1,13 +1,11 @@
-use mathlib.Core.Path.{subst, sym}
-use Rattle.desk.proofs.Reachable.{Good}
-use Rattle.rehearsal.proofs.Turns.{tick-good}
+use mathlib.Core.Path.{subst, sym, _≡_, refl, ap}
+use Rattle.desk.specs.State.{Good}
+use Rattle.rehearsal.proofs.Turns.{tick-good, tick-less}
 use Rattle.rehearse.specs.Going.{Filled}
-use mathlib.Core.Path.{_≡_, refl, ap}
 use lib.ListN.{length}
 use native.Mathlib.Omega.{arith}
 use borrow.Author.Needs.{needs}
 use Rattle.rehearsal.specs.Session.{tickOf}
-use Rattle.rehearsal.proofs.Turns.{tick-less}
 use Rattle.rehearse.proofs.run.Statement.{statement}
 use Rattle.rehearse.proofs.run.Tie as tie
 use Rattle.rehearse.proofs.run.Reads as reads

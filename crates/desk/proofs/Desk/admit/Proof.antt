@@ -2,7 +2,7 @@
 use mathlib.Core.Path.{refl, sym, subst}
 use mathlib.Core.Logic.{inl, inr}
 use Rattle.edf.specs.Fits.{Fits}
-use Rattle.desk.specs.declared.Verdict.the-variants.{Yes}
+use Rattle.refusals.specs.declared.Verdict.the-variants.{Yes}
 use Rattle.desk.specs.Asking.{Judged}
 use Rattle.desk.proofs.State.{jobs-are-kept}
 use Rattle.desk.proofs.Asking.{taken-ordered, taken-book, taken-desk}

@@ -6,14 +6,14 @@ use native.Mathlib.Omega.{arith}
 use borrow.Author.Tests.{not-true, not-false}
 use Rattle.lists.proofs.Places.{length-mapped}
 use Rattle.ticks.specs.Ticks.{ticks, plus}
-use Rattle.desk.specs.declared.Verdict.{Verdict}
-use Rattle.desk.specs.declared.Verdict.the-variants.{Yes}
+use Rattle.refusals.specs.declared.Verdict.{Verdict}
+use Rattle.refusals.specs.declared.Verdict.the-variants.{Yes}
 use Rattle.desk.specs.State.{inOrder, Sized}
-use Rattle.desk.specs.Answers.{firstOf}
+use Rattle.refusals.specs.Refusals.{firstOf}
 use Rattle.desk.specs.Calls.{disorder}
 use Rattle.desk.specs.Asking.{askLines, requested, Admissible, Judged}
 use Rattle.desk.proofs.State.{in-order}
-use Rattle.desk.proofs.Answers.{stops, goes-on}
+use Rattle.refusals.proofs.Refusals.{stops, goes-on}
 use Rattle.desk.proofs.Calls.{few-jobs}
 use Rattle.desk.proofs.Asking.{admissible, stopped-asked, judged-asked}
 use borrow.Author.Needs.{needs}

@@ -6,7 +6,7 @@ use Rattle.lists.proofs.Tests.{both-made}
 use Rattle.ticks.specs.Ticks.{isJob, within}
 use Rattle.jobs.specs.Jobs.{lacks, live}
 use Rattle.jobs.proofs.Numbers.{nothing, lacks-found}
-use Rattle.desk.proofs.Answers.{stops, goes-on}
+use Rattle.refusals.proofs.Refusals.{stops, goes-on}
 use borrow.Author.Needs.{needs}
 use Rattle.desk.proofs.Desk.ask_stops.Statement.{statement}
 use Rattle.desk.proofs.Desk.ask_stops.Tie as tie

@@ -14,7 +14,8 @@ use Rattle.edf.specs.Calls.{ending}
 use Rattle.desk.specs.State.{inOrder, book, deskOf, Sized}
 use Rattle.desk.specs.Calls.{endOf, endLines}
 use Rattle.desk.proofs.State.{in-order, jobs-are-kept}
-use Rattle.desk.proofs.Answers.{stops, goes-on, no-line, refused-is, yes-is}
+use Rattle.refusals.proofs.Refusals.{stops, goes-on, no-line}
+use Rattle.desk.proofs.Answers.{refused-is, yes-is}
 use Rattle.desk.proofs.Calls.{few-jobs, ended-desk}
 use borrow.Author.Needs.{needs}
 use Rattle.desk.proofs.Desk.end.Statement.{statement}

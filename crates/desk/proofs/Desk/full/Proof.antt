@@ -2,7 +2,7 @@
 use mathlib.Core.Path.{sym, ap}
 use mathlib.Core.Bool.{not}
 use borrow.Author.Tests.{lt-ltb, le-ltb}
-use Rattle.desk.proofs.Answers.{stops, goes-on, no-line}
+use Rattle.refusals.proofs.Refusals.{stops, goes-on, no-line}
 use Rattle.desk.proofs.Desk.full.Statement.{statement}
 use Rattle.desk.proofs.Desk.full.Tie as tie
 

@@ -11,12 +11,12 @@ use Rattle.lists.proofs.Places.{length-mapped}
 use Rattle.jobs.specs.Jobs.{live}
 use Rattle.listing.specs.Order.{listOrder, words}
 use Rattle.desk.specs.declared.Counted.the-variants.{Jobs}
-use Rattle.desk.specs.declared.Verdict.the-variants.{Yes}
+use Rattle.refusals.specs.declared.Verdict.the-variants.{Yes}
 use Rattle.desk.specs.State.{inOrder, Sized}
-use Rattle.desk.specs.Answers.{firstOf, onYes}
+use Rattle.refusals.specs.Refusals.{firstOf, onYes}
 use Rattle.desk.specs.Calls.{listLines, countIf, countedOf, listedOf}
 use Rattle.desk.proofs.State.{jobs-are-kept}
-use Rattle.desk.proofs.Answers.{stops, goes-on, no-line}
+use Rattle.refusals.proofs.Refusals.{stops, goes-on, no-line}
 use Rattle.desk.proofs.Calls.{few-jobs}
 use borrow.Author.Needs.{needs}
 use Rattle.desk.proofs.Desk.list.Statement.{statement}

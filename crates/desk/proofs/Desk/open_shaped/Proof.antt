@@ -9,10 +9,11 @@ use Rattle.feeds.specs.Feeds.{feedsOf}
 use Rattle.feeds.specs.Lines.{feedsIn, soundOf, readOf}
 use Rattle.feeds.proofs.Lines.{not-fine}
 use Rattle.ledger.specs.Pieces.{arrived}
-use Rattle.desk.specs.declared.Refusal.the-variants.{PastLast}
-use Rattle.desk.specs.declared.Verdict.the-variants.{Yes, No}
+use Rattle.refusals.specs.declared.Refusal.the-variants.{PastLast}
+use Rattle.refusals.specs.declared.Verdict.the-variants.{Yes, No}
 use Rattle.edf.specs.Load.{opened}
-use Rattle.desk.specs.Answers.{firstOf, verdictOf}
+use Rattle.refusals.specs.Refusals.{firstOf}
+use Rattle.desk.specs.Answers.{verdictOf}
 use Rattle.desk.specs.Opening.{openLines}
 use Rattle.desk.proofs.Opening.{refused-by-instant, judged-by-feeds, refused-opening, taken-opening, refused-empty, listed-by-feeds, fine-reading, opened-feeds}
 use borrow.Author.Needs.{needs}

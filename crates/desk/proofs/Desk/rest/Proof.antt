@@ -14,7 +14,8 @@ use Rattle.ledger.proofs.Positions.{owes-some}
 use Rattle.desk.specs.State.{inOrder, book, deskOf, Sized}
 use Rattle.desk.specs.Calls.{restOf, restLines}
 use Rattle.desk.proofs.State.{feeds-are-kept}
-use Rattle.desk.proofs.Answers.{stops, goes-on, no-line, refused-is, yes-is}
+use Rattle.refusals.proofs.Refusals.{stops, goes-on, no-line}
+use Rattle.desk.proofs.Answers.{refused-is, yes-is}
 use Rattle.desk.proofs.Calls.{few-feeds, rested-desk}
 use borrow.Author.Needs.{needs}
 use Rattle.desk.proofs.Desk.rest.Statement.{statement}

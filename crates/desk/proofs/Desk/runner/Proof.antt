@@ -9,12 +9,12 @@ use Rattle.listing.specs.declared.Runner.the-variants.{Idle}
 use Rattle.edf.specs.Step.{runner}
 use Rattle.serving.specs.declared.Who.the-variants as who
 use Rattle.serving.proofs.Steps.{front-who}
-use Rattle.desk.specs.declared.Verdict.the-variants.{Yes}
+use Rattle.refusals.specs.declared.Verdict.the-variants.{Yes}
 use Rattle.desk.specs.State.{inOrder, book, Sized}
-use Rattle.desk.specs.Answers.{firstOf, onYes}
+use Rattle.refusals.specs.Refusals.{firstOf, onYes}
 use Rattle.desk.specs.Calls.{stepLines, runnerIs, runnerOf}
 use Rattle.desk.proofs.State.{in-order}
-use Rattle.desk.proofs.Answers.{stops, goes-on, no-line}
+use Rattle.refusals.proofs.Refusals.{stops, goes-on, no-line}
 use Rattle.desk.proofs.Calls.{few-feeds, few-jobs}
 use borrow.Author.Needs.{needs}
 use Rattle.desk.proofs.Desk.runner.Statement.{statement}

@@ -10,7 +10,8 @@ use Rattle.serving.specs.Tick.{namedOf, tickedOf}
 use Rattle.desk.specs.State.{inOrder, book, Sized}
 use Rattle.desk.specs.Answers.{ranOf}
 use Rattle.desk.specs.Calls.{stepOf, stepLines}
-use Rattle.desk.proofs.Answers.{stops, goes-on, no-line, step-refused, step-taken}
+use Rattle.refusals.proofs.Refusals.{stops, goes-on, no-line}
+use Rattle.desk.proofs.Answers.{step-refused, step-taken}
 use Rattle.desk.proofs.Calls.{steppable}
 use borrow.Author.Needs.{needs}
 use Rattle.desk.proofs.Desk.step.Statement.{statement}

@@ -1,7 +1,7 @@
 use mathlib.Core.Path.{_≡_}
 use mathlib.Core.Bool.{true, false}
 use borrow.Author.Tests.{not-true, not-false}
-use Rattle.desk.specs.Answers.{answerOf}
+use Rattle.refusals.specs.Refusals.{answerOf}
 use Rattle.rehearsal.specs.declared.Said.{Said}
 use Rattle.rehearsal.specs.Session.{withDesk}
 use Rattle.rehearsal.proofs.Turns.{never}
@@ -12,7 +12,7 @@ use Rattle.rehearsal.proofs.Session.ask.Reads as reads
 use Rattle.rehearsal.proofs.Session.ask.Lts as lts
 use Rattle.desk.proofs.Desk.ask.Reads as ask-reads
 use Rattle.rehearsal.proofs.Session.bad.Reads as bad-reads
-use Rattle.rehearsal.proofs.answer_of.Reads as answer-of-reads
+use Rattle.refusals.proofs.Verdict.answer.Reads as answer-reads
 
 -- src/lib.rt:172:13
 bad-requires : tie.Need-bad-requires
@@ -29,8 +29,8 @@ ask-requires : tie.Need-ask-requires
 ask-requires c κs = search needs
 
 -- src/lib.rt:177:13
-answer-of-requires : tie.Need-answer-of-requires
-answer-of-requires c κs = search needs
+answer-requires : tie.Need-answer-requires
+answer-requires c κs = search needs
 
 -- src/lib.rt:168:5
 returns-2 : tie.Need-returns-2
@@ -38,7 +38,7 @@ returns-2 c =
     let s = c .before .before .before .before .before .args .self in
     let a = c .before .before .ask .result in
     let opened : s .opened ≡ true = not-false _ (c .before .before .before .if1 .left) in
-    let e : c .answer-of .result ≡ answerOf (a .verdict) = c .answer-of .ensures in
+    let e : c .answer .result ≡ answerOf (a .verdict) = c .answer .ensures in
     record {
       early = λ h. absurd (never _ opened h);
       after = λ h. record {
@@ -49,4 +49,4 @@ returns-2 c =
     }
 
 pub ask-spec : {M : Type 1} → statement M
-ask-spec = tie.close (tie.spec bad-requires returns ask-requires answer-of-requires returns-2)
+ask-spec = tie.close (tie.spec bad-requires returns ask-requires answer-requires returns-2)

@@ -5,7 +5,7 @@ use lib.ListN.{length, length-take}
 use native.Mathlib.Omega.{arith}
 use borrow.Author.Tests.{lt-ltb, le-ltb}
 use Rattle.lists.proofs.Places.{length-mapped}
-use Rattle.desk.specs.Answers.{answerOf}
+use Rattle.refusals.specs.Refusals.{answerOf}
 use Rattle.rehearsal.specs.declared.Said.{Said}
 use Rattle.rehearsal.specs.Session.{goOf, goneOf, mostFeedLines}
 use borrow.Author.Needs.{needs}
@@ -15,7 +15,7 @@ use Rattle.rehearsal.proofs.Session.go.Reads as reads
 use Rattle.rehearsal.proofs.Session.go.Lts as lts
 use Rattle.desk.proofs.Desk.open.Reads as open-reads
 use Rattle.rehearsal.proofs.Session.bad.Reads as bad-reads
-use Rattle.rehearsal.proofs.answer_of.Reads as answer-of-reads
+use Rattle.refusals.proofs.Verdict.answer.Reads as answer-reads
 
 -- src/lib.rt:147:13
 bad-requires : tie.Need-bad-requires
@@ -57,8 +57,8 @@ open-requires : tie.Need-open-requires
 open-requires c κs = search needs
 
 -- src/lib.rt:157:13
-answer-of-requires : tie.Need-answer-of-requires
-answer-of-requires c κs = search needs
+answer-requires : tie.Need-answer-requires
+answer-requires c κs = search needs
 
 -- src/lib.rt:143:5
 returns-3 : tie.Need-returns-3
@@ -67,7 +67,7 @@ returns-3 c =
     let s = c .before .before .before .before .before .before .before .before .before .args .self in
     let a = c .before .before .«open» .result in
     let few : ltb mostFeedLines (s .feeds) ≡ false = le-ltb _ _ (c .before .before .before .before .before .before .if2 .left) in
-    let e : c .answer-of .result ≡ answerOf (a .verdict) = c .answer-of .ensures in
+    let e : c .answer .result ≡ answerOf (a .verdict) = c .answer .ensures in
     (λ i. record {
       session = record { desk = a .desk; list = s .list; feeds = s .feeds; opened = true; over = not (eqb (e i) 0); left = s .left };
       said = Said.Go (e i);
@@ -87,5 +87,5 @@ go-spec =
     array-share-prefix-list
     slice-aggregate-open
     open-requires
-    answer-of-requires
+    answer-requires
     returns-3)

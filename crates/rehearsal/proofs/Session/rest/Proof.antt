@@ -1,7 +1,7 @@
 use mathlib.Core.Path.{_≡_, ap, _∙_}
 use mathlib.Core.Bool.{true, false}
 use borrow.Author.Tests.{not-true, not-false}
-use Rattle.desk.specs.Answers.{answerOf}
+use Rattle.refusals.specs.Refusals.{answerOf}
 use Rattle.rehearsal.specs.declared.Said.{Said}
 use Rattle.rehearsal.specs.Session.{withDesk, callOf, restOf}
 use borrow.Author.Needs.{needs}
@@ -11,7 +11,7 @@ use Rattle.rehearsal.proofs.Session.rest.Reads as reads
 use Rattle.rehearsal.proofs.Session.rest.Lts as lts
 use Rattle.desk.proofs.Desk.rest.Reads as rest-reads
 use Rattle.rehearsal.proofs.Session.bad.Reads as bad-reads
-use Rattle.rehearsal.proofs.answer_of.Reads as answer-of-reads
+use Rattle.refusals.proofs.Verdict.answer.Reads as answer-reads
 
 -- src/lib.rt:208:13
 bad-requires : tie.Need-bad-requires
@@ -29,8 +29,8 @@ rest-requires : tie.Need-rest-requires
 rest-requires c κs = search needs
 
 -- src/lib.rt:213:13
-answer-of-requires : tie.Need-answer-of-requires
-answer-of-requires c κs = search needs
+answer-requires : tie.Need-answer-requires
+answer-requires c κs = search needs
 
 -- src/lib.rt:204:5
 returns-2 : tie.Need-returns-2
@@ -39,10 +39,10 @@ returns-2 c =
     let s = c .before .before .before .before .before .args .self in
     let a = c .before .before .rest .result in
     let opened : s .opened ≡ true = not-false _ (c .before .before .before .if1 .left) in
-    let e : c .answer-of .result ≡ answerOf (a .verdict) = c .answer-of .ensures in
+    let e : c .answer .result ≡ answerOf (a .verdict) = c .answer .ensures in
     (λ i. record { session = withDesk s (a .desk); said = Said.Rest (e i) })
     ∙ ap (callOf s Said.Rest) (c .before .before .rest .ensures)
     ∙ rw opened
 
 pub rest-spec : {M : Type 1} → statement M
-rest-spec = tie.close (tie.spec bad-requires returns rest-requires answer-of-requires returns-2)
+rest-spec = tie.close (tie.spec bad-requires returns rest-requires answer-requires returns-2)

@@ -5,15 +5,15 @@ use Rattle.rehearsal.proofs.Session.stopped.Statement.{statement}
 use Rattle.rehearsal.proofs.Session.stopped.Tie as tie
 use Rattle.rehearsal.proofs.Session.stopped.Reads as reads
 use Rattle.rehearsal.proofs.Session.stopped.Lts as lts
-use Rattle.rehearsal.proofs.number_of.Reads as number-of-reads
+use Rattle.refusals.proofs.Refusal.number.Reads as number-reads
 
 -- src/lib.rt:289:33
-number-of-requires : tie.Need-number-of-requires
-number-of-requires c κs = search needs
+number-requires : tie.Need-number-requires
+number-requires c κs = search needs
 
 -- src/lib.rt:282:5
 returns : tie.Need-returns
-returns c = λ i. record { session = withLeft (c .before .args .self) 0; said = Said.Stopped (c .number-of .ensures i) }
+returns c = λ i. record { session = withLeft (c .before .args .self) 0; said = Said.Stopped (c .number .ensures i) }
 
 pub stopped-spec : {M : Type 1} → statement M
-stopped-spec = tie.close (tie.spec number-of-requires returns)
+stopped-spec = tie.close (tie.spec number-requires returns)
