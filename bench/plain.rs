@@ -51,7 +51,10 @@ fn feeds_in_order(desk: &Desk) -> bool {
     if !feeds.iter().all(feed_within) {
         return false;
     }
-    let Some(round) = round_of(feeds) else { return false };
+    let round = match round_of(feeds) {
+        Some(round) => round,
+        None => return false,
+    };
     let load: u64 = feeds.iter().map(|feed| feed.work * (round / feed.period)).sum();
     let empty = |feed: &Feed| feed.period == 0 && feed.work == 0 && feed.offset == 0 && feed.owes == 0;
     let piece = |feed: &Feed| feed.owes <= feed.work && (feed.owes == 0 || feed.offset <= desk.clock);
@@ -109,7 +112,10 @@ fn next_due(desk: &Desk, by: u64, till: u64) -> u64 {
 fn fits(desk: &Desk) -> bool {
     let jobs = jobs_of(desk).iter().map(|job| job.deadline).max().unwrap_or(0);
     let feeds = feeds_of(desk).iter().map(|feed| first_due(feed, desk.clock)).max().unwrap_or(0);
-    let Some(round) = round_of(feeds_of(desk)) else { return false };
+    let round = match round_of(feeds_of(desk)) {
+        Some(round) => round,
+        None => return false,
+    };
     let horizon = desk.clock.max(jobs).max(feeds) + round;
     let mut by = desk.clock;
     while by < horizon {
@@ -163,7 +169,10 @@ pub fn end(desk: &mut Desk, number: u32) -> u32 {
     if !in_order(desk) {
         return 13;
     }
-    let Some(at) = jobs_of(desk).iter().position(|job| job.number == number) else { return 7 };
+    let at = match jobs_of(desk).iter().position(|job| job.number == number) {
+        Some(at) => at,
+        None => return 7,
+    };
     out(desk, at);
     0
 }

@@ -16,7 +16,7 @@ pub fn linked(seed: u64, count: u64) -> io::Result<bool> {
 
 #[cfg(not(feature = "calls"))]
 pub fn linked(_seed: u64, _count: u64) -> io::Result<bool> {
-    Err(io::Error::other(
+    Err(crate::fault(
         "built without the feature `calls`, so there is no library to call",
     ))
 }
@@ -303,7 +303,7 @@ impl Walk<'_> {
             if self.random.chance(10) {
                 self.on_a_damaged_copy(booked)?;
             }
-            let in_order = read(&booked).is_some_and(|state| state.in_order());
+            let in_order = read(&booked).map_or(false, |state| state.in_order());
             if !in_order && self.random.chance(50) {
                 break;
             }
@@ -314,8 +314,9 @@ impl Walk<'_> {
 
 /// Many ticks at once, by the model alone, to get far from the opening.
 fn run_on(random: &mut Random, desk: Desk) -> Desk {
-    let Some(mut state) = read(&desk).filter(|state| state.in_order()) else {
-        return desk;
+    let mut state = match read(&desk).filter(|state| state.in_order()) {
+        Some(state) => state,
+        None => return desk,
     };
     let ticks = random.below(3_000).min(LAST_INSTANT - state.clock);
     for _ in 0..ticks {
@@ -357,7 +358,7 @@ fn job_labels(random: &mut Random, state: &model::Desk, length: usize) -> Vec<u8
             _ if state.jobs.is_empty() => 0,
             _ => {
                 let other = state.jobs[random.index(state.jobs.len())].number;
-                if first.is_some_and(|job| job.number == other) {
+                if first.map_or(false, |job| job.number == other) {
                     0
                 } else {
                     other
@@ -375,8 +376,9 @@ fn job_labels(random: &mut Random, state: &model::Desk, length: usize) -> Vec<u8
 
 /// Keeps the state in order, but promises more than there is time for.
 fn overbook(random: &mut Random, desk: &mut Desk) {
-    let Some(mut state) = read(desk).filter(|state| state.in_order()) else {
-        return;
+    let mut state = match read(desk).filter(|state| state.in_order()) {
+        Some(state) => state,
+        None => return,
     };
     let clock = state.clock;
     let room = (LAST_INSTANT - clock).min(65_536);
@@ -448,8 +450,9 @@ fn number_twice(desk: &mut Desk) {
 /// Goes back before an offset, where nothing can have come.
 fn piece_before_its_offset(random: &mut Random, desk: &mut Desk) {
     let count = desk.feeds.count.min(16);
-    let Some(place) = (0..count).find(|&place| desk.feeds.feeds[place].offset > 0) else {
-        return one_field(random, desk);
+    let place = match (0..count).find(|&place| desk.feeds.feeds[place].offset > 0) {
+        Some(place) => place,
+        None => return one_field(random, desk),
     };
     desk.table = Default::default();
     desk.clock = random.below(desk.feeds.feeds[place].offset);

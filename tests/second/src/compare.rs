@@ -1,11 +1,11 @@
 //! Random scripts beside the real program, compared byte for byte.
 
-use crate::invent;
-use crate::script;
+use crate::{fault, invent, script};
 use std::fs;
 use std::io::{self, Read, Write};
 use std::path::Path;
 use std::process::{Child, ChildStdin, Command, Stdio};
+use std::sync::atomic::{AtomicUsize, Ordering};
 use std::thread;
 
 fn own_answer(input: &[u8]) -> Vec<u8> {
@@ -57,24 +57,58 @@ fn their_answer(program: &str, input: &[u8]) -> io::Result<Vec<u8>> {
     Ok(answer)
 }
 
-/// Whether all scripts got the same answer, first the fixed ones.
+/// Whether all scripts got the same answer, first the fixed ones. As many are
+/// under way at once as the machine has processors.
 pub fn scripts(program: &str, seed: u64, count: u64) -> io::Result<bool> {
     let fixed = invent::fixed();
-    for (item, input) in fixed.iter().enumerate() {
-        if compare(program, &format!("fixed script {item}"), input)?.is_none() {
-            return Ok(false);
+    let script = |item: usize| match fixed.get(item) {
+        Some(input) => (format!("fixed script {item}"), input.clone()),
+        None => {
+            let item = (item - fixed.len()) as u64;
+            (
+                format!("seed {seed}, script {item}"),
+                invent::script(seed, item),
+            )
         }
-    }
+    };
+    let next = AtomicUsize::new(0);
+    let all = fixed.len() + count as usize;
+    let worker = || -> io::Result<Option<usize>> {
+        let mut lines = 0;
+        loop {
+            let item = next.fetch_add(1, Ordering::Relaxed);
+            if all <= item {
+                return Ok(Some(lines));
+            }
+            let (name, input) = script(item);
+            match compare(program, &name, &input)? {
+                Some(more) => lines += more,
+                None => {
+                    next.store(all, Ordering::Relaxed);
+                    return Ok(None);
+                }
+            }
+        }
+    };
+    let answers: Vec<io::Result<Option<usize>>> = thread::scope(|scope| {
+        let many = thread::available_parallelism().map_or(1, usize::from);
+        let workers: Vec<_> = (0..many).map(|_| scope.spawn(&worker)).collect();
+        workers
+            .into_iter()
+            .map(|at| at.join().expect("a worker"))
+            .collect()
+    });
     let mut lines = 0;
-    for item in 0..count {
-        let input = invent::script(seed, item);
-        match compare(program, &format!("seed {seed}, script {item}"), &input)? {
+    for answer in answers {
+        match answer? {
             Some(more) => lines += more,
             None => return Ok(false),
         }
     }
-    println!("fixed scripts: {} compared, no difference", fixed.len());
-    println!("seed {seed}: {count} scripts compared, {lines} lines of answers, no difference");
+    println!(
+        "{} fixed scripts and {count} of seed {seed} compared, {lines} lines of answers, no difference",
+        fixed.len()
+    );
     Ok(true)
 }
 
@@ -140,7 +174,7 @@ impl<R: Read> Write for Expecting<R> {
                 ours.len(),
                 self.same
             );
-            return Err(io::Error::other(after));
+            return Err(fault(after));
         }
         self.same += ours.len() as u64;
         Ok(ours.len())
@@ -169,7 +203,7 @@ pub fn flood(program: &str) -> io::Result<bool> {
         script::rehearse(&input, &mut out)?;
         let mut expecting = out.into_inner().map_err(|error| error.into_error())?;
         if expecting.theirs.read(&mut [0])? != 0 {
-            return Err(io::Error::other("the other program says more"));
+            return Err(fault("the other program says more"));
         }
         Ok(expecting.same)
     });

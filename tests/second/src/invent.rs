@@ -99,8 +99,9 @@ fn with_works(random: &mut Random, periods: Vec<u64>, load: Load) -> Vec<Feed> {
         owes: 0,
     };
     let mut feeds: Vec<Feed> = periods.into_iter().map(feed).collect();
-    let Some(round) = round_of(&feeds) else {
-        return feeds;
+    let round = match round_of(&feeds) {
+        Some(round) => round,
+        None => return feeds,
     };
     let mut room = round;
     feeds.retain(|feed| {

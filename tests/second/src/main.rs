@@ -40,7 +40,7 @@ fn main() -> ExitCode {
         ["calls", seed, count] => {
             numbers(seed, count).and_then(|(seed, count)| calls::linked(seed, count))
         }
-        _ => Err(io::Error::other(USAGE)),
+        _ => Err(fault(USAGE)),
     };
     match done {
         Ok(true) => ExitCode::SUCCESS,
@@ -52,10 +52,15 @@ fn main() -> ExitCode {
     }
 }
 
+/// Old compilers too have this.
+fn fault(why: impl Into<Box<dyn std::error::Error + Send + Sync>>) -> io::Error {
+    io::Error::new(io::ErrorKind::Other, why)
+}
+
 fn numbers(seed: &str, count: &str) -> io::Result<(u64, u64)> {
     match (seed.parse(), count.parse()) {
         (Ok(seed), Ok(count)) => Ok((seed, count)),
-        _ => Err(io::Error::other(USAGE)),
+        _ => Err(fault(USAGE)),
     }
 }
 

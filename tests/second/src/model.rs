@@ -135,8 +135,9 @@ fn feeds_refusal(feeds: &[Feed]) -> Option<Refusal> {
     if !feeds.iter().all(feed_within_limits) {
         return Some(OUTSIDE_LIMITS);
     }
-    let Some(round) = round_of(feeds) else {
-        return Some(ROUND_TOO_LONG);
+    let round = match round_of(feeds) {
+        Some(round) => round,
+        None => return Some(ROUND_TOO_LONG),
     };
     let load: u64 = feeds.iter().map(|f| f.work * (round / f.period)).sum();
     (load > round).then_some(LOAD_TOO_HIGH)

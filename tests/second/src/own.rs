@@ -6,8 +6,15 @@ use crate::model::{self, Place, Refusal, Runner, NOT_IN_ORDER};
 /// The state that these fixed tables hold; nothing if a count is above its
 /// limit or an unused place isn't all zero, which is not in order.
 pub fn read(desk: &Desk) -> Option<model::Desk> {
-    let (feeds, free_feeds) = desk.feeds.feeds.split_at_checked(desk.feeds.count)?;
-    let (jobs, free_jobs) = desk.table.jobs.split_at_checked(desk.table.count)?;
+    let (all_feeds, all_jobs) = (&desk.feeds.feeds, &desk.table.jobs);
+    let (feeds, free_feeds) = (
+        all_feeds.get(..desk.feeds.count)?,
+        &all_feeds[desk.feeds.count..],
+    );
+    let (jobs, free_jobs) = (
+        all_jobs.get(..desk.table.count)?,
+        &all_jobs[desk.table.count..],
+    );
     let unused = free_feeds.iter().all(|feed| *feed == Feed::default())
         && free_jobs.iter().all(|job| *job == Job::default());
     unused.then(|| model::Desk {

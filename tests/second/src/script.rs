@@ -76,8 +76,9 @@ pub fn rehearse(input: &[u8], out: &mut impl Write) -> io::Result<()> {
     let mut stage = beginning();
     for (k, line) in (1..).zip(input.split_inclusive(|&byte| byte == b'\n')) {
         let said = line.strip_suffix(b"\n").and_then(read_line);
-        let Some(next) = said.and_then(|said| allowed(stage, said)) else {
-            return writeln!(out, "line {k} bad");
+        let next = match said.and_then(|said| allowed(stage, said)) {
+            Some(next) => next,
+            None => return writeln!(out, "line {k} bad"),
         };
         stage = follow(next.0, next.1, out)?;
         if let Stage::Stopped = stage {

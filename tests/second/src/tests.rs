@@ -569,7 +569,7 @@ fn give(
             continue;
         }
         seen[tick] = true;
-        if given[tick].is_none_or(|other| give(other, units, given, seen)) {
+        if given[tick].map_or(true, |other| give(other, units, given, seen)) {
             given[tick] = Some(unit);
             return true;
         }
