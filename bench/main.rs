@@ -7,6 +7,8 @@ mod plain;
 
 use desk::Desk;
 use std::hint::black_box;
+use std::io::{Read, Write};
+use std::process::{Command, Stdio};
 
 #[repr(C)]
 struct Time {
@@ -14,8 +16,17 @@ struct Time {
     nanoseconds: i64,
 }
 
+/// Of all that the system tells of the programs that ended, the times alone are read.
+#[repr(C)]
+struct Usage {
+    user: Time,
+    system: Time,
+    rest: [i64; 14],
+}
+
 extern "C" {
     fn clock_gettime(clock: i32, time: *mut Time) -> i32;
+    fn getrusage(who: i32, usage: *mut Usage) -> i32;
 }
 
 /// Nanoseconds of processor time of this thread, so that other work on the machine does not count.
@@ -23,6 +34,16 @@ fn now() -> f64 {
     let mut time = Time { seconds: 0, nanoseconds: 0 };
     assert_eq!(unsafe { clock_gettime(3, &mut time) }, 0);
     time.seconds as f64 * 1e9 + time.nanoseconds as f64
+}
+
+/// Nanoseconds of processor time of the programs that were started and have ended.
+fn ended() -> f64 {
+    let zero = || Time { seconds: 0, nanoseconds: 0 };
+    let mut usage = Usage { user: zero(), system: zero(), rest: [0; 14] };
+    assert_eq!(unsafe { getrusage(-1, &mut usage) }, 0);
+    // here the second number counts microseconds
+    let micros = usage.user.nanoseconds + usage.system.nanoseconds;
+    (usage.user.seconds + usage.system.seconds) as f64 * 1e9 + micros as f64 * 1e3
 }
 
 /// Nanoseconds a call: the best of five rounds, each of at least 20 ms.
@@ -140,6 +161,57 @@ fn day() {
     println!("{:.0} ticks a second, plain {:.0}, ratio {:.2}.", 86_400.0 / library, 86_400.0 / own, library / own);
 }
 
+/// What the program answers to a script, and its processor time, the best of three.
+fn rehearsed(program: &str, script: &str) -> (String, f64) {
+    let mut best = (String::new(), f64::INFINITY);
+    for _ in 0..3 {
+        let began = ended();
+        let mut child = Command::new(program).stdin(Stdio::piped()).stdout(Stdio::piped()).spawn().expect("the program");
+        child.stdin.take().expect("piped").write_all(script.as_bytes()).expect("the script");
+        let mut text = String::new();
+        child.stdout.take().expect("piped").read_to_string(&mut text).expect("the answers");
+        child.wait().expect("its end");
+        let took = ended() - began;
+        if took < best.1 {
+            best = (text, took);
+        }
+    }
+    best
+}
+
+const RUNS: usize = 32;
+
+/// The ticks of long runs in the program itself, their lines with them, beside the plain desk that writes the same lines.
+fn runs(program: &str, jobs: u32) {
+    let mut asks = String::new();
+    for feed in feeds(4).chunks(3) {
+        asks += &format!("feed {} {} {}\n", feed[0], feed[1], feed[2]);
+    }
+    asks += "go 0\n";
+    let mut desk = desk::open(&feeds(4), 0).desk;
+    for number in 1..=jobs {
+        asks += &format!("ask {number} 900 65536\n");
+        desk = desk.ask(number, 900, 65_536).desk;
+    }
+    let (before, short) = rehearsed(program, &asks);
+    let (after, long) = rehearsed(program, &(asks + &"run 4096\n".repeat(RUNS)));
+    let ticks = RUNS * 4096;
+    let began = now();
+    let mut lines = Vec::new();
+    for instant in 0..ticks {
+        match plain::tick(&mut desk) {
+            (_, 1, number) => writeln!(lines, "{instant} job {number}"),
+            (_, 2, position) => writeln!(lines, "{instant} feed {position}"),
+            _ => writeln!(lines, "{instant} idle"),
+        }
+        .expect("writing to memory");
+    }
+    let own = (now() - began) / ticks as f64;
+    assert!(after.as_bytes() == [before.as_bytes(), &lines].concat(), "the lines of {jobs} jobs");
+    let program = (long - short) / ticks as f64;
+    println!("{jobs} jobs, 4 feeds: {:.0} ticks a second, plain {:.0}, ratio {:.2}.", 1e9 / program, 1e9 / own, program / own);
+}
+
 /// Feeds of one period and as many offsets, so that something is due at nearly every instant, and one of the longest.
 fn dense(count: u32, period: u32) -> Vec<u32> {
     let mut list: Vec<u32> = (0..count).flat_map(|i| [period, 1, i]).collect();
@@ -181,5 +253,10 @@ fn main() {
     let full = with_jobs(4, 64);
     asking(&full, "ask with all places taken, 64 jobs, 4 feeds", 1, 1, 5);
     day();
+    let program = std::env::args().nth(1).expect("usage: bench PROGRAM");
+    println!("\nThe program `rehearse` itself, runs of 4,096 ticks with the lines that it writes, no check of the state:");
+    for jobs in [0, 16, 64] {
+        runs(&program, jobs);
+    }
     slowest();
 }

@@ -177,7 +177,7 @@ pub fn end(desk: &mut Desk, number: u32) -> u32 {
     0
 }
 
-/// Whom the tick goes to: kind (0 idle, 1 job, 2 feed) and number or position.
+/// A step of any state: the refusal, and whom the tick went to.
 pub fn step(desk: &mut Desk) -> (u32, u32, u32) {
     if !in_order(desk) {
         return (13, 0, 0);
@@ -185,6 +185,11 @@ pub fn step(desk: &mut Desk) -> (u32, u32, u32) {
     if desk.clock == LAST {
         return (3, 0, 0);
     }
+    tick(desk)
+}
+
+/// A tick of a state in order, not at the clock's end. Kind 0 is idle, 1 a job by number, 2 a feed by position.
+pub fn tick(desk: &mut Desk) -> (u32, u32, u32) {
     let job = jobs_of(desk).iter().enumerate().map(|(i, job)| (job.deadline, job.number, i)).min();
     let clock = desk.clock;
     let feed = feeds_of(desk)
