@@ -28,14 +28,12 @@ use Rattle.refusals.specs.declared.Refusal.{Refusal}
 use Rattle.refusals.specs.declared.Verdict.{Verdict}
 use Rattle.refusals.specs.declared.Verdict.the-variants.{Yes, No}
 use Rattle.desk.specs.State.{inOrder, book, deskOf, Sized}
+use Rattle.refusals.proofs.Refusals.{yes-is-not-no}
 use Rattle.refusals.specs.Refusals.{Line, firstOf}
 use Rattle.desk.specs.Calls.{disorder}
 use Rattle.desk.specs.Asking.{askLines, requested, with-job, Admissible, Judged, Asked}
 use Rattle.desk.proofs.State.{in-order}
 use Rattle.desk.proofs.Calls.{few-feeds, few-jobs, feeds-back}
-
-pub yes-is-not-no : (x : Refusal) → Yes ≡ No x → ⊥
-yes-is-not-no x e = let z : _≡_ {A = ℕ} 0 1 = cc in omega arith
 
 -- where no line holds, each does not
 pub all-pass : (ls : List Line) → firstOf ls ≡ Yes → Each (λ l. l .holds ≡ false) ls

@@ -45,7 +45,8 @@ use Rattle.desk.specs.Calls.{disorder, stepLines, stepOf}
 use Rattle.desk.specs.Asking.{askLines, requested, with-job, Judged, Asked}
 use Rattle.desk.specs.Runs.{Call, ask, step, Right, after, run, AllRight, named, NotEnded, NotRested}
 use Rattle.desk.specs.Kept.{Live, HasLeft, JobKept, PieceKept}
-use Rattle.desk.proofs.Asking.{yes-is-not-no, all-pass, admissible}
+use Rattle.refusals.proofs.Refusals.{yes-is-not-no}
+use Rattle.desk.proofs.Asking.{all-pass, admissible}
 use Rattle.desk.proofs.Reachable.{opened-is-good, opened-held, passing-opens, admissible-askable}
 use Rattle.desk.proofs.State.{book-of-desk}
 use Rattle.desk.proofs.Splits.{shadow-not-ended, shadow-not-rested, splits, shadows-append, shadows-step, right-front, right-and-step, live-read, live-written, last-answer}

@@ -3,6 +3,7 @@ pub mod Answers
 pub mod Opening
 pub mod Calls
 pub mod Asking
+pub mod Meshes
 pub mod Runs
 pub mod Kept
 pub mod Examples

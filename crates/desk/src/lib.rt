@@ -7,6 +7,7 @@ use jobs::Job;
 use jobs::Table;
 use listing::Part;
 use listing::Runner;
+use mesh::Mesh;
 use refusals::Refusal;
 use refusals::Verdict;
 use serving::Named;
@@ -29,6 +30,7 @@ ghost use Rattle.desk.specs.Answers.{verdictOf, ranOf};
 ghost use Rattle.desk.specs.Opening.{openedOf};
 ghost use Rattle.desk.specs.Calls.{stepOf, endOf, restOf, countedOf, listedOf, runnerOf};
 ghost use Rattle.desk.specs.Asking.{askLines, fullLine, Admissible, Judged, Asked};
+ghost use Rattle.desk.specs.Meshes.{refusedOf, AskedMesh};
 
 // The state of a box: what the clock reads, the feeds with their current pieces, and the live jobs.
 #[repr(C)]
@@ -320,6 +322,34 @@ impl Desk {
                 verdict: Verdict::No(refusal),
             },
             Verdict::Yes => self.admit(Job::of(number, owed, self.clock.plus(ahead))),
+        }
+    }
+
+    // A request that has its own refusal, unless the state is not in order.
+    fn refused(self, refusal: Refusal) -> Answer
+        ensures { λ r. ⌜ r ≡ refusedOf self refusal ⌝ }
+    {
+        if !self.in_order() {
+            return Answer {
+                desk: self,
+                verdict: Verdict::No(Refusal::NotInOrder),
+            };
+        }
+        Answer {
+            desk: self,
+            verdict: Verdict::No(refusal),
+        }
+    }
+
+    // Asking with the mesh file itself: the front of the file and its length tell the work.
+    pub fn ask_mesh(self, head: &[u8], size: u64, number: u32, lead: u32) -> Answer
+        ensures { λ r. ⌜ AskedMesh self (now (head .entry)) size number lead r ⌝ }
+    {
+        match mesh::read(head, size) {
+            Mesh::Short => self.refused(Refusal::ShortFront),
+            Mesh::Disagrees => self.refused(Refusal::LengthOff),
+            Mesh::Empty => self.refused(Refusal::NoTriangles),
+            Mesh::Work(work) => self.ask(number, work, lead),
         }
     }
 

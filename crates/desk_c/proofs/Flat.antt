@@ -1,5 +1,6 @@
 -- The flat answers: how many jobs can be listed, and that the contract of asking leaves one outcome.
 use mathlib.Core.Path.{_≡_, sym, ap, _∙_}
+use mathlib.Core.List.{List}
 use Prim.Native.Nat.{ℕ, _≤_}
 use native.Mathlib.Omega.{arith}
 use lib.ListN.{length, take, drop, take-append-drop, length-append}
@@ -11,8 +12,9 @@ use Rattle.desk.specs.declared.Counted.the-variants.{Jobs}
 use Rattle.refusals.specs.Refusals.{firstOf}
 use Rattle.desk.specs.Calls.{listLines, countIf, countedOf}
 use Rattle.desk.proofs.Asking.{asked-once}
+use Rattle.desk.proofs.Meshes.{asked-mesh-once}
 use Rattle.desk_c.specs.declared.Answer.{Answer}
-use Rattle.desk_c.specs.Flat.{flatAnswer, AskedFlat}
+use Rattle.desk_c.specs.Flat.{flatAnswer, AskedFlat, AskedMeshFlat}
 
 counted-all : (v : Verdict) (m n : ℕ) → countIf v m ≡ Jobs n → m ≡ n
 counted-all Yes m n e = cc
@@ -30,3 +32,9 @@ few-counted d size n long e =
 pub asked-flat-once : (d : Desk) (number work lead : ℕ) (r s : Answer) → AskedFlat d number work lead r → AskedFlat d number work lead s → r ≡ s
 asked-flat-once d number work lead r s a b =
     a .flat ∙ ap flatAnswer (asked-once d number work lead (a .answer) (b .answer) (a .asked) (b .asked)) ∙ sym (b .flat)
+
+-- the same of asking with a mesh
+pub asked-mesh-flat-once : (d : Desk) (s : List ℕ) (size number lead : ℕ) (q r : Answer) → AskedMeshFlat d s size number lead q → AskedMeshFlat d s size number lead r
+    → q ≡ r
+asked-mesh-flat-once d s size number lead q r a b =
+    a .flat ∙ ap flatAnswer (asked-mesh-once d s size number lead (a .answer) (b .answer) (a .asked) (b .asked)) ∙ sym (b .flat)

@@ -1,5 +1,6 @@
 -- The desk's answers as flat numbers: 0 for yes, else the refusal's number; the values of each case beside it.
 use mathlib.Core.Path.{_≡_}
+use mathlib.Core.List.{List}
 use Prim.Native.Nat.{ℕ}
 use Rattle.listing.specs.declared.Part.{Part}
 use Rattle.desk.specs.declared.Desk.{Desk}
@@ -11,6 +12,7 @@ use Rattle.desk.specs.declared.Counted.{Counted}
 use Rattle.desk.specs.declared.Counted.the-variants as counted
 use Rattle.refusals.specs.Refusals.{numberOf, answerOf}
 use Rattle.desk.specs.Asking.{Asked}
+use Rattle.desk.specs.Meshes.{AskedMesh}
 use Rattle.desk_c.specs.declared.Answer.{Answer}
 use Rattle.desk_c.specs.declared.Stepped.{Stepped}
 use Rattle.desk_c.specs.declared.Listed.{Listed}
@@ -43,4 +45,10 @@ flatPart p = record { list = p .list; from = p .from; size = p .size }
 pub record AskedFlat (d : Desk) (number work lead : ℕ) (r : Answer) : Type 0 where
   pub answer : answer.Answer
   pub asked : Asked d number work lead answer
+  pub flat : r ≡ flatAnswer answer
+
+-- the flat form of an answer that asking with a mesh allows
+pub record AskedMeshFlat (d : Desk) (s : List ℕ) (size number lead : ℕ) (r : Answer) : Type 0 where
+  pub answer : answer.Answer
+  pub asked : AskedMesh d s size number lead answer
   pub flat : r ≡ flatAnswer answer

@@ -9,7 +9,7 @@ ghost use Rattle.listing.specs.Labels.{labelOf};
 ghost use Rattle.refusals.specs.Refusals.{numberOf, answerOf};
 ghost use Rattle.desk.specs.Opening.{openedOf};
 ghost use Rattle.desk.specs.Calls.{stepOf, endOf, restOf, countedOf, listedOf, runnerOf};
-ghost use Rattle.desk_c.specs.Flat.{flatAnswer, flatStep, flatCount, flatPart, AskedFlat};
+ghost use Rattle.desk_c.specs.Flat.{flatAnswer, flatStep, flatCount, flatPart, AskedFlat, AskedMeshFlat};
 
 // The state that a call hands back, and 0 for yes or the refusal's number.
 #[repr(C)]
@@ -106,6 +106,20 @@ pub extern "C" fn desk_ask(desk: Desk, number: u32, work: u32, lead: u32) -> Ans
     ensures { λ r. ⌜ AskedFlat desk number work lead r ⌝ }
 {
     flat_answer(desk.ask(number, work, lead))
+}
+
+// Asking with the mesh file itself: the front of the file, its length, and the job's number and lead.
+#[no_mangle]
+pub extern "C" fn desk_ask_mesh(
+    desk: Desk,
+    head: &[u8],
+    size: u64,
+    number: u32,
+    lead: u32,
+) -> Answer
+    ensures { λ r. ⌜ AskedMeshFlat desk (now (head .entry)) size number lead r ⌝ }
+{
+    flat_answer(desk.ask_mesh(head, size, number, lead))
 }
 
 // One step of one tick.

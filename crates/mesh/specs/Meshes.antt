@@ -8,13 +8,6 @@ use Rattle.mesh.specs.declared.Mesh.{Mesh}
 use Rattle.mesh.specs.declared.Mesh.the-variants.{Short, Disagrees, Empty, Work}
 use Rattle.mesh.specs.Bands.{workOf}
 
--- the number that the rules give each answer; 0 where there is nothing to refuse
-abbrev pub lineOf : Mesh → ℕ
-lineOf Short = 15
-lineOf Disagrees = 16
-lineOf Empty = 17
-lineOf (Work w) = 0
-
 -- the bytes before the triangle count
 abbrev pub headerBytes : ℕ
 headerBytes = 80

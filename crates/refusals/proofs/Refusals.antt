@@ -2,6 +2,9 @@
 use mathlib.Core.Path.{_≡_, refl, ap, _∙_}
 use mathlib.Core.Bool.{true, false, cond}
 use mathlib.Core.List.{List, [], _∷_}
+use Prim.Native.Nat.{ℕ}
+use native.Mathlib.Omega.{arith}
+use Rattle.refusals.specs.declared.Refusal.{Refusal}
 use Rattle.refusals.specs.declared.Verdict.{Verdict}
 use Rattle.refusals.specs.declared.Verdict.the-variants.{Yes, No}
 use Rattle.refusals.specs.Refusals.{Line, firstOf}
@@ -19,3 +22,6 @@ goes-on l ls v h e = ap (λ b. cond b (No (l .refusal)) (firstOf ls)) h ∙ e
 pub no-line : firstOf [] ≡ Yes
 unfolding firstOf
 no-line = refl
+
+pub yes-is-not-no : (x : Refusal) → Yes ≡ No x → ⊥
+yes-is-not-no x e = let z : _≡_ {A = ℕ} 0 1 = cc in omega arith

@@ -17,6 +17,9 @@ use Rattle.refusals.specs.declared.Refusal.the-variants.{
   ShortBuffer,
   NotThree,
   NotInOrder,
+  ShortFront,
+  LengthOff,
+  NoTriangles,
 }
 use Rattle.refusals.specs.declared.Verdict.{Verdict}
 use Rattle.refusals.specs.declared.Verdict.the-variants.{Yes, No}
@@ -36,6 +39,9 @@ numberOf TooMuchLoad = 10
 numberOf ShortBuffer = 11
 numberOf NotThree = 12
 numberOf NotInOrder = 13
+numberOf ShortFront = 15
+numberOf LengthOff = 16
+numberOf NoTriangles = 17
 
 -- 0 for yes, else the refusal's number
 abbrev pub answerOf : Verdict → ℕ

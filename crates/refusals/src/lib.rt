@@ -18,6 +18,9 @@ pub enum Refusal {
     ShortBuffer,
     NotThree,
     NotInOrder,
+    ShortFront,
+    LengthOff,
+    NoTriangles,
 }
 
 pub enum Verdict {
@@ -44,6 +47,9 @@ impl Refusal {
             Refusal::ShortBuffer => 11,
             Refusal::NotThree => 12,
             Refusal::NotInOrder => 13,
+            Refusal::ShortFront => 15,
+            Refusal::LengthOff => 16,
+            Refusal::NoTriangles => 17,
         }
     }
 }
