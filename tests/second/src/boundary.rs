@@ -88,6 +88,7 @@ impl Default for Table {
 pub trait Library {
     fn open(&self, list: &[u32], start: u64) -> Answer;
     fn ask(&self, desk: Desk, number: u32, work: u32, lead: u32) -> Answer;
+    fn ask_mesh(&self, desk: Desk, head: &[u8], size: u64, number: u32, lead: u32) -> Answer;
     fn step(&self, desk: Desk) -> Stepped;
     fn end(&self, desk: Desk, number: u32) -> Answer;
     fn rest(&self, desk: Desk, position: u32) -> Answer;
@@ -106,6 +107,14 @@ mod linked {
     extern "C" {
         fn desk_open(list: *const u32, length: usize, start: u64) -> Answer;
         fn desk_ask(desk: Desk, number: u32, work: u32, lead: u32) -> Answer;
+        fn desk_ask_mesh(
+            desk: Desk,
+            head: *const u8,
+            lent: usize,
+            size: u64,
+            number: u32,
+            lead: u32,
+        ) -> Answer;
         fn desk_step(desk: Desk) -> Stepped;
         fn desk_end(desk: Desk, number: u32) -> Answer;
         fn desk_rest(desk: Desk, position: u32) -> Answer;
@@ -127,6 +136,9 @@ mod linked {
         }
         fn ask(&self, desk: Desk, number: u32, work: u32, lead: u32) -> Answer {
             unsafe { desk_ask(desk, number, work, lead) }
+        }
+        fn ask_mesh(&self, desk: Desk, head: &[u8], size: u64, number: u32, lead: u32) -> Answer {
+            unsafe { desk_ask_mesh(desk, head.as_ptr(), head.len(), size, number, lead) }
         }
         fn step(&self, desk: Desk) -> Stepped {
             unsafe { desk_step(desk) }

@@ -9,6 +9,7 @@ mod boundary;
 mod calls;
 mod compare;
 mod invent;
+mod mesh;
 mod model;
 mod own;
 mod random;

@@ -3,7 +3,7 @@
 //! Every call follows the document's order of refusals. The one hard question,
 //! whether a request fits, is not answered here: see `ahead`.
 
-use crate::ahead;
+use crate::{ahead, mesh};
 
 /// A reading of the clock, or a deadline.
 pub type Instant = u64;
@@ -17,7 +17,8 @@ pub const FEEDS_MOST: usize = 16;
 pub const FEED_LENGTH_MOST: Length = 40_320;
 pub const ROUND_MOST: Length = 40_320;
 
-/// The document's numbers, table "What each number says".
+/// The document's numbers, table "What each number says", and those of the
+/// requests that came after it.
 pub type Refusal = u32;
 pub const NUMBER_ZERO: Refusal = 1;
 pub const OUTSIDE_LIMITS: Refusal = 2;
@@ -32,6 +33,9 @@ pub const LOAD_TOO_HIGH: Refusal = 10;
 pub const BUFFER_TOO_SHORT: Refusal = 11;
 pub const LIST_NOT_IN_THREES: Refusal = 12;
 pub const NOT_IN_ORDER: Refusal = 13;
+pub const FRONT_TOO_SHORT: Refusal = 15;
+pub const LENGTH_DISAGREES: Refusal = 16;
+pub const NO_TRIANGLES: Refusal = 17;
 
 #[derive(Clone, Copy, Debug, PartialEq, Eq)]
 pub struct Feed {
@@ -250,6 +254,20 @@ impl Desk {
         } else {
             Err(DOES_NOT_FIT)
         }
+    }
+
+    /// Asking with the mesh file itself: 13, 15, 16, 17, then as any ask.
+    pub fn ask_mesh(
+        &self,
+        head: &[u8],
+        size: u64,
+        number: u32,
+        lead: u32,
+    ) -> Result<Desk, Refusal> {
+        if !self.in_order() {
+            return Err(NOT_IN_ORDER);
+        }
+        self.ask(number, mesh::work(head, size)?, lead)
     }
 
     /// Who would get the tick at the clock's instant: the ready work with the

@@ -122,6 +122,13 @@ impl Library for Own {
         )
     }
 
+    fn ask_mesh(&self, desk: Desk, head: &[u8], size: u64, number: u32, lead: u32) -> Answer {
+        answer(
+            desk,
+            state_of(&desk).and_then(|state| state.ask_mesh(head, size, number, lead)),
+        )
+    }
+
     fn step(&self, desk: Desk) -> Stepped {
         match state_of(&desk).and_then(|state| state.step()) {
             Ok((state, ran)) => {

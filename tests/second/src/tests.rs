@@ -6,6 +6,7 @@ use crate::ahead;
 use crate::boundary::{Answer, Label, Library, Listed, Stepped};
 use crate::calls;
 use crate::invent::BENCH;
+use crate::mesh;
 use crate::model::*;
 use crate::own::{read, write, Own};
 use crate::random::Random;
@@ -169,6 +170,171 @@ fn refusals_elsewhere() {
     assert_eq!(late.end(9).err(), Some(13));
     assert_eq!(late.rest(1).err(), Some(13));
     assert_eq!(late.list(&mut []).err(), Some(13));
+}
+
+// ---------------------------------------------------------------- asking with the mesh
+
+/// The front of a file with this many triangles, behind a header of this byte.
+fn front(triangles: u32, header: u8) -> Vec<u8> {
+    let mut head = vec![header; 80];
+    head.extend(triangles.to_le_bytes());
+    head
+}
+
+fn length_of(triangles: u32) -> u64 {
+    84 + 50 * u64::from(triangles)
+}
+
+/// Each band as the request has it: from, to, ticks.
+const BANDS: [(u32, u32, u32); 6] = [
+    (1, 9_999, 4),
+    (10_000, 99_999, 16),
+    (100_000, 999_999, 120),
+    (1_000_000, 9_999_999, 900),
+    (10_000_000, 99_999_999, 8_000),
+    (100_000_000, 4_294_967_295, 65_536),
+];
+
+#[test]
+fn each_band_at_both_its_ends() {
+    let desk = open(&[], 0).unwrap();
+    for (from, to, ticks) in BANDS {
+        for triangles in [from, to] {
+            let taken = desk
+                .ask_mesh(&front(triangles, 0), length_of(triangles), 1, 65_536)
+                .unwrap();
+            assert_eq!(taken.jobs[0].owed, ticks.into(), "{triangles} triangles");
+        }
+    }
+}
+
+#[test]
+fn the_bands_leave_no_count_out() {
+    let mut random = Random::of(13, 0);
+    let mut next = 1;
+    for (from, to, ticks) in BANDS {
+        assert_eq!(u64::from(from), next);
+        next = u64::from(to) + 1;
+        for _ in 0..1_000 {
+            let triangles = random.between(from.into(), to.into()) as u32;
+            assert_eq!(mesh::work_for(triangles), ticks, "{triangles} triangles");
+        }
+    }
+    assert_eq!(next, 1 << 32);
+}
+
+#[test]
+fn the_count_stands_behind_the_header_lowest_byte_first() {
+    for (place, triangles) in (80..).zip([1, 256, 65_536, 16_777_216]) {
+        let mut head = vec![0; 84];
+        head[place] = 1;
+        assert_eq!(head, front(triangles, 0));
+        let ticks = mesh::work_for(triangles);
+        assert_eq!(mesh::work(&head, length_of(triangles)), Ok(ticks));
+    }
+    let length = 617_334;
+    assert_eq!(length, length_of(12_345));
+    for header in [0, 1, b' ', 255] {
+        let mut head = front(12_345, header);
+        assert_eq!(head[80..], [0x39, 0x30, 0, 0]);
+        for more in 0..20 {
+            assert_eq!(mesh::work(&head, length), Ok(16), "{more} bytes more");
+            head.push(!header);
+        }
+    }
+}
+
+#[test]
+fn a_front_that_is_too_short() {
+    let head = front(12_345, 7);
+    for lent in 0..84 {
+        for size in [617_334, 84, 0, u64::MAX] {
+            assert_eq!(mesh::work(&head[..lent], size), Err(15), "{lent} bytes");
+        }
+    }
+    assert_eq!(mesh::work(&head, 617_334), Ok(16));
+}
+
+#[test]
+fn a_length_that_does_not_agree() {
+    for (from, to, ticks) in BANDS {
+        for triangles in [from, to] {
+            let (head, right) = (front(triangles, 0), length_of(triangles));
+            assert_eq!(mesh::work(&head, right), Ok(ticks));
+            for wrong in [right - 50, right - 49, right - 1, right + 1] {
+                assert_eq!(mesh::work(&head, wrong), Err(16));
+            }
+            // The last two agree where only 32 bits are looked at.
+            for wrong in [right + 49, right + 50, right + (1 << 32), right ^ (1 << 63)] {
+                assert_eq!(mesh::work(&head, wrong), Err(16));
+            }
+            for wrong in [0, 1, 83, 84, u64::MAX] {
+                assert_eq!(mesh::work(&head, wrong), Err(16));
+            }
+        }
+    }
+    let longest = 214_748_364_834;
+    assert_eq!(longest, length_of(u32::MAX));
+    assert_eq!(mesh::work(&front(u32::MAX, 0), longest), Ok(65_536));
+    let round_32_bits = longest % (1 << 32);
+    assert_eq!(mesh::work(&front(u32::MAX, 0), round_32_bits), Err(16));
+}
+
+#[test]
+fn a_mesh_without_triangles() {
+    assert_eq!(mesh::work(&front(0, 9), 84), Err(17));
+    for size in [0, 83, 85, 134, u64::MAX] {
+        assert_eq!(mesh::work(&front(0, 9), size), Err(16));
+    }
+}
+
+#[test]
+fn refusals_of_a_mesh_in_order() {
+    let (some, none) = (front(10, 0), front(0, 0));
+    let mut disordered = x();
+    disordered.clock = LAST_INSTANT + 1;
+    assert_eq!(disordered.ask_mesh(&[], 0, 0, 0).err(), Some(13));
+    assert_eq!(disordered.ask_mesh(&some, 585, 0, 0).err(), Some(13));
+    assert_eq!(disordered.ask_mesh(&none, 84, 0, 0).err(), Some(13));
+    assert_eq!(disordered.ask_mesh(&some, 584, 1, 9).err(), Some(13));
+    let last = open(&[], LAST_INSTANT).unwrap();
+    assert_eq!(last.ask_mesh(&none[..83], 83, 0, 0).err(), Some(15));
+    assert_eq!(last.ask_mesh(&none, 83, 0, 0).err(), Some(16));
+    assert_eq!(last.ask_mesh(&some, 583, 0, 0).err(), Some(16));
+    assert_eq!(last.ask_mesh(&none, 84, 0, 0).err(), Some(17));
+    assert_eq!(last.ask_mesh(&some, 584, 0, 0).err(), Some(1));
+    assert_eq!(last.ask_mesh(&some, 584, 1, 0).err(), Some(2));
+    assert_eq!(last.ask_mesh(&some, 584, 1, 65_537).err(), Some(2));
+    assert_eq!(last.ask_mesh(&some, 584, 1, 1).err(), Some(3));
+    let one = open(&[], LAST_INSTANT - 10).unwrap().ask(1, 7, 10).unwrap();
+    assert_eq!(one.ask_mesh(&none, 84, 1, 10).err(), Some(17));
+    assert_eq!(one.ask_mesh(&some, 584, 1, 11).err(), Some(3));
+    assert_eq!(one.ask_mesh(&some, 584, 1, 10).err(), Some(4));
+    assert_eq!(one.ask_mesh(&some, 584, 2, 10).err(), Some(6));
+    let mut full = open(&[], 0).unwrap();
+    for number in 1..=64 {
+        full = full.ask_mesh(&some, 584, number, 256).unwrap();
+    }
+    assert_eq!(full.ask_mesh(&some, 584, 64, 1).err(), Some(4));
+    assert_eq!(full.ask_mesh(&some, 584, 65, 1).err(), Some(5));
+    assert_eq!(full.ask_mesh(&some, 534, 65, 1).err(), Some(16));
+}
+
+/// What passes the mesh's own lines is the ask for its work, to the state.
+#[test]
+fn a_mesh_that_passes_is_asked_for_as_any_job() {
+    let mut random = Random::of(14, 0);
+    let mut taken = 0;
+    for _ in 0..500 {
+        let desk = small_state(&mut random, &[2, 3, 4, 5, 6, 8, 12, 20], 40);
+        let triangles = random.pick(&[1, 9_999, 12_345, 99_999]);
+        let (head, size) = (front(triangles, 1), length_of(triangles));
+        let (number, lead) = (random.below(6) as u32, random.below(100) as u32);
+        let asked = desk.ask(number, if triangles < 10_000 { 4 } else { 16 }, lead);
+        taken += u32::from(asked.is_ok());
+        assert_eq!(desk.ask_mesh(&head, size, number, lead), asked);
+    }
+    assert!((50..450).contains(&taken), "both often: {taken} taken");
 }
 
 // ---------------------------------------------------------------- steps and states
@@ -698,6 +864,9 @@ impl Library for Faulty {
             _ => (),
         }
         answer
+    }
+    fn ask_mesh(&self, desk: State, head: &[u8], size: u64, number: u32, lead: u32) -> Answer {
+        Own.ask_mesh(desk, head, size, number, lead)
     }
     fn step(&self, desk: State) -> Stepped {
         let mut stepped = Own.step(desk);
