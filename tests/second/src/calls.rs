@@ -2,7 +2,7 @@
 //! the answer, every field of the state handed back, every word of the buffers.
 
 use crate::boundary::{Answer, Desk, Feed, Job, Label, Library, Listed, Stepped};
-use crate::invent;
+use crate::invent::{self, Mesh};
 use crate::model::{self, LAST_INSTANT};
 use crate::own::{read, write, Own};
 use crate::random::Random;
@@ -47,6 +47,7 @@ fn report(seed: u64, outcome: Result<Tally, String>) -> bool {
 enum Call {
     Open { list: Vec<u32>, start: u64 },
     Ask { number: u32, work: u32, lead: u32 },
+    AskMesh { mesh: Mesh, number: u32, lead: u32 },
     Step,
     End { number: u32 },
     Rest { position: u32 },
@@ -57,6 +58,8 @@ enum Call {
 #[derive(Clone, Debug, PartialEq, Eq)]
 enum Said {
     Answer(Answer),
+    /// With the lent front, which must come back as it was.
+    Mesh(Answer, Vec<u8>),
     Stepped(Stepped),
     /// With the lent buffer and the guard words behind it.
     Listed(Listed, Vec<u64>),
@@ -64,6 +67,7 @@ enum Said {
     Label(Label, Vec<u8>, Vec<u8>),
 }
 
+const FRONT_MOST: usize = 100;
 const LIST_MOST: usize = 3 * 64 + 5;
 const JOB_LABELS_MOST: usize = 12 * 70 + 11;
 const FEED_LABELS_MOST: usize = 8 * 17 + 7;
@@ -80,6 +84,11 @@ fn make(library: &dyn Library, desk: Desk, call: &Call) -> Said {
     match call {
         Call::Open { list, start } => Said::Answer(library.open(list, *start)),
         Call::Ask { number, work, lead } => Said::Answer(library.ask(desk, *number, *work, *lead)),
+        Call::AskMesh { mesh, number, lead } => {
+            let head = mesh.head.clone();
+            let answer = library.ask_mesh(desk, &head, mesh.size, *number, *lead);
+            Said::Mesh(answer, head)
+        }
         Call::Step => Said::Stepped(library.step(desk)),
         Call::End { number } => Said::Answer(library.end(desk, *number)),
         Call::Rest { position } => Said::Answer(library.rest(desk, *position)),
@@ -100,6 +109,7 @@ fn name(call: &Call) -> &'static str {
     match call {
         Call::Open { .. } => "open",
         Call::Ask { .. } => "ask",
+        Call::AskMesh { .. } => "mesh",
         Call::Step => "step",
         Call::End { .. } => "end",
         Call::Rest { .. } => "rest",
@@ -112,7 +122,7 @@ fn name(call: &Call) -> &'static str {
 /// 101 or 102 by the list, so that the tally shows that each kind came.
 fn refusal(said: &Said) -> u32 {
     match said {
-        Said::Answer(answer) => answer.refusal,
+        Said::Answer(answer) | Said::Mesh(answer, _) => answer.refusal,
         Said::Stepped(stepped) => stepped.refusal,
         Said::Listed(listed, _) => listed.refusal,
         Said::Label(Label { length: 0, .. }, ..) => 0,
@@ -129,6 +139,8 @@ struct Walk<'a> {
     calls: u64,
     /// Lengths of buffers go round through all there are.
     lengths: usize,
+    /// Lengths of fronts too, by themselves.
+    fronts: usize,
 }
 
 /// At least this many calls; an error tells the first difference.
@@ -140,6 +152,7 @@ pub fn compare(library: &dyn Library, seed: u64, count: u64) -> Result<Tally, St
         tally: Tally::new(),
         calls: 0,
         lengths: 0,
+        fronts: 0,
     };
     while walk.calls < count {
         walk.walk_from_an_opening()?;
@@ -158,7 +171,7 @@ impl Walk<'_> {
         self.calls += 1;
         *self.tally.entry((name(&call), refusal(&ours))).or_default() += 1;
         Ok(match ours {
-            Said::Answer(answer) => answer.desk,
+            Said::Answer(answer) | Said::Mesh(answer, _) => answer.desk,
             Said::Stepped(stepped) => stepped.desk,
             Said::Listed(..) | Said::Label(..) => desk,
         })
@@ -191,6 +204,9 @@ impl Walk<'_> {
             }
             if self.random.chance(10) {
                 self.on_an_overbooked_copy(desk)?;
+            }
+            if self.random.chance(25) {
+                self.meshes_on_an_empty_desk(desk.clock)?;
             }
         }
         Ok(())
@@ -234,7 +250,7 @@ impl Walk<'_> {
             .unwrap_or_default();
         let random = &mut self.random;
         match random.below(100) {
-            0..=34 => {
+            0..=29 => {
                 let number = invent::number(random, &state);
                 let lead = invent::lead(random, &state);
                 let work = invent::work(random, &state, number, lead) as u32;
@@ -244,15 +260,45 @@ impl Walk<'_> {
                     lead: lead as u32,
                 }
             }
-            35..=49 => Call::Step,
-            50..=59 => Call::End {
+            30..=44 => self.some_mesh(&state),
+            45..=54 => Call::Step,
+            55..=62 => Call::End {
                 number: invent::live_or_not(random, &state),
             },
-            60..=69 => Call::Rest {
+            63..=70 => Call::Rest {
                 position: invent::position(random, &state),
             },
-            70..=84 => self.some_list(&state),
+            71..=85 => self.some_list(&state),
             _ => self.some_label(&state),
+        }
+    }
+
+    fn some_mesh(&mut self, state: &model::Desk) -> Call {
+        let lent = match self.random.below(100) {
+            0..=19 => {
+                self.fronts += 1;
+                self.fronts % (FRONT_MOST + 1)
+            }
+            20..=24 => self.random.pick(&[0, 80, 83, 83, 85]),
+            25..=59 => 84,
+            _ => self.random.between(84, FRONT_MOST as u64) as usize,
+        };
+        let random = &mut self.random;
+        let mesh = invent::mesh(random, lent);
+        // Often with more than one thing wrong, as the order of refusals shows
+        // nowhere else.
+        let number = match random.below(8) {
+            0 => 0,
+            _ => invent::number(random, state),
+        };
+        let lead = match random.below(8) {
+            0 => random.pick(&[0, 65_537, u64::from(u32::MAX)]),
+            _ => invent::mesh_lead(random, state, number, &mesh),
+        };
+        Call::AskMesh {
+            mesh,
+            number,
+            lead: lead as u32,
         }
     }
 
@@ -280,6 +326,20 @@ impl Walk<'_> {
             .map(|_| self.random.next() as u8)
             .collect();
         Call::Label { jobs, feeds }
+    }
+
+    /// Where nothing is promised yet the work of every band finds room, so that
+    /// each shows in what is taken.
+    fn meshes_on_an_empty_desk(&mut self, clock: u64) -> Result<(), String> {
+        let mut desk = Desk {
+            clock,
+            ..Desk::default()
+        };
+        for _ in 0..self.random.between(1, 4) {
+            let call = self.some_mesh(&read(&desk).unwrap_or_default());
+            desk = self.call(desk, call)?;
+        }
+        Ok(())
     }
 
     /// Out of order by one field, mostly: then every call says so.
@@ -589,7 +649,9 @@ fn short(desk: &Desk) -> String {
 
 fn tell(said: &Said) -> String {
     match said {
-        Said::Answer(answer) => format!("refusal {}\n{}", answer.refusal, short(&answer.desk)),
+        Said::Answer(answer) | Said::Mesh(answer, _) => {
+            format!("refusal {}\n{}", answer.refusal, short(&answer.desk))
+        }
         Said::Stepped(Stepped {
             desk,
             refusal,

@@ -4,7 +4,8 @@
 //! lines of every kind. A script keeps the model's state beside it, so that
 //! most lines mean something where they stand.
 
-use crate::model::{open, round_of, Desk, Feed, LAST_INSTANT, ROUND_MOST};
+use crate::mesh;
+use crate::model::{open, round_of, Desk, Feed, JOB_LENGTH_MOST, LAST_INSTANT, ROUND_MOST};
 use crate::random::Random;
 use crate::script::INPUT_MOST;
 
@@ -277,6 +278,97 @@ pub fn position(random: &mut Random, desk: &Desk) -> u32 {
         80..=84 => 0,
         85..=92 => desk.feeds.len() as u32 + 1,
         _ => random.pick(&[16, 17, 4_294_967_295, 256]),
+    }
+}
+
+// ---------------------------------------------------------------- mesh files
+
+/// A file as a caller tells of it.
+#[derive(Clone, Debug)]
+pub struct Mesh {
+    /// The bytes lent of its front.
+    pub head: Vec<u8>,
+    pub size: u64,
+}
+
+/// Where a count's work changes.
+const BANDS_BEGIN: [u32; 5] = [10_000, 100_000, 1_000_000, 10_000_000, 100_000_000];
+
+fn triangles(random: &mut Random) -> u32 {
+    match random.below(100) {
+        0..=9 => 0,
+        10..=24 => random.between(1, 300) as u32,
+        25..=59 => random.pick(&BANDS_BEGIN) - random.pick(&[0, 1]),
+        60..=74 => random.between(1, 99_999) as u32,
+        // As often of few bits as of many.
+        75..=89 => random.next() as u32 >> random.below(32),
+        90..=94 => u32::MAX - random.below(2) as u32,
+        _ => random.next() as u32,
+    }
+}
+
+/// Mostly the length that agrees; else one that is off by a little, that agrees
+/// but for its high bits, or that is no length of a mesh at all.
+fn length(random: &mut Random, triangles: u32) -> u64 {
+    let right = 84 + 50 * u64::from(triangles);
+    match random.below(100) {
+        0..=73 => right,
+        74..=79 => right + random.pick(&[1, 50]),
+        80..=85 => right - random.pick(&[1, 50]),
+        86..=89 => right + random.between(2, 120) - 60,
+        90..=93 => right + (1 << random.pick(&[31, 32, 32, 33, 40, 63])),
+        94..=95 => right % (1 << 32),
+        96 => u64::MAX - random.below(200),
+        97..=98 => random.below(200),
+        _ => random.next(),
+    }
+}
+
+/// A file of which this many bytes are lent. The header holds anything, also
+/// the word that a mesh written as text begins with.
+pub fn mesh(random: &mut Random, lent: usize) -> Mesh {
+    let triangles = triangles(random);
+    let size = length(random, triangles);
+    let mut head: Vec<u8> = (0..lent.max(84)).map(|_| random.next() as u8).collect();
+    if random.chance(20) {
+        head[..6].copy_from_slice(b"solid ");
+    }
+    head[80..84].copy_from_slice(&triangles.to_le_bytes());
+    head.truncate(lent);
+    Mesh { head, size }
+}
+
+/// The shortest lead with which this work fits, if there is one, found by asking.
+fn least_that_fits(desk: &Desk, number: u32, work: u32) -> Option<u64> {
+    let fits = |lead: u64| desk.ask(number, work, lead as u32).is_ok();
+    let (mut short, mut fitting) = (0, JOB_LENGTH_MOST.min(LAST_INSTANT - desk.clock));
+    if !fits(fitting) {
+        return None;
+    }
+    while fitting - short > 1 {
+        let middle = (short + fitting) / 2;
+        if fits(middle) {
+            fitting = middle;
+        } else {
+            short = middle;
+        }
+    }
+    Some(fitting)
+}
+
+/// A lead for this mesh: as its work is given, often one at which it just fits
+/// or just doesn't.
+pub fn mesh_lead(random: &mut Random, desk: &Desk, number: u32, mesh: &Mesh) -> u64 {
+    let least = match mesh::work(&mesh.head, mesh.size) {
+        Ok(work) if random.chance(70) => least_that_fits(desk, number, work),
+        _ => None,
+    };
+    match (least, random.below(5)) {
+        (Some(least), 0) => least - 1,
+        (Some(least), 1 | 2) => least,
+        (Some(least), 3) => least + random.between(1, 60),
+        (Some(least), _) => random.between(least, JOB_LENGTH_MOST),
+        (None, _) => lead(random, desk),
     }
 }
 

@@ -1,6 +1,7 @@
 //! Tests of this program itself: the document's examples, each refusal, each
-//! kind of bad line, the rehearsal ahead against two slower ways of knowing,
-//! and the comparing of calls against libraries with one fault planted.
+//! kind of bad line, each band of a mesh, the rehearsal ahead against two slower
+//! ways of knowing, and the comparing of calls against libraries with one fault
+//! planted.
 
 use crate::ahead;
 use crate::boundary::{Answer, Label, Library, Listed, Stepped};
@@ -11,6 +12,8 @@ use crate::model::*;
 use crate::own::{read, write, Own};
 use crate::random::Random;
 use crate::script::{rehearse, INPUT_MOST};
+use std::cell::{Cell, RefCell};
+use std::collections::BTreeSet;
 
 fn said(input: &str) -> String {
     let mut out = Vec::new();
@@ -827,6 +830,7 @@ fn a_right_library_passes() {
     let refusals = [
         ("open", vec![0, 2, 3, 8, 9, 10, 12]),
         ("ask", vec![0, 1, 2, 3, 4, 5, 6, 13]),
+        ("mesh", vec![0, 1, 2, 3, 4, 5, 6, 13, 15, 16, 17]),
         ("step", vec![0, 3, 13]),
         ("end", vec![0, 7, 13]),
         ("rest", vec![0, 7, 13]),
@@ -843,7 +847,7 @@ fn a_right_library_passes() {
     }
 }
 
-/// A library with one fault, by number.
+/// A library with one fault, by number; from 11 on it is one of the mesh.
 struct Faulty(u32);
 
 type State = crate::boundary::Desk;
@@ -866,7 +870,7 @@ impl Library for Faulty {
         answer
     }
     fn ask_mesh(&self, desk: State, head: &[u8], size: u64, number: u32, lead: u32) -> Answer {
-        Own.ask_mesh(desk, head, size, number, lead)
+        faulty_mesh(self.0, desk, head, size, number, lead)
     }
     fn step(&self, desk: State) -> Stepped {
         let mut stepped = Own.step(desk);
@@ -913,13 +917,135 @@ impl Library for Faulty {
     }
 }
 
+/// The answer that is wrong by this fault, and the right one where it does not
+/// show.
+fn faulty_mesh(fault: u32, desk: State, head: &[u8], size: u64, number: u32, lead: u32) -> Answer {
+    let mut answer = Own.ask_mesh(desk, head, size, number, lead);
+    let with = |head: &[u8], size| Own.ask_mesh(desk, head, size, number, lead);
+    let refused = |refusal| Answer { desk, refusal };
+    let (bytes, triangles) = match head.get(80..84) {
+        Some(b) => (head.to_vec(), u32::from_le_bytes([b[0], b[1], b[2], b[3]])),
+        None if fault == 11 && head.len() == 83 => return with(&[head, &[0]].concat(), size),
+        None if fault == 12 => return refused(15),
+        None => return answer,
+    };
+    let right = length_of(triangles);
+    match fault {
+        13 if head.len() > 84 => return refused(15),
+        14 if bytes.starts_with(b"solid") => return refused(16),
+        15 => return with(&front(triangles.swap_bytes(), 0), size),
+        16 => return with(&bytes[bytes.len() - 84..], size),
+        17 if size as u32 == right as u32 => return with(head, right),
+        18 if (right..right + 50).contains(&size) => return with(head, right),
+        19 if right < size => return with(head, right),
+        20 if triangles == 0 && answer.refusal == 16 => answer.refusal = 17,
+        21 if triangles == 0 && number != 0 => return Own.ask(desk, number, 4, lead),
+        22 if number == 0 && (15..=17).contains(&answer.refusal) => answer.refusal = 1,
+        23 if !(1..=65_536).contains(&lead) && answer.refusal == 1 => answer.refusal = 2,
+        24 if (15..=17).contains(&answer.refusal) => answer.desk = State::default(),
+        25 if answer.refusal == 17 => answer.refusal = 1,
+        // A band's end in the next band, its beginning in the one before.
+        30..=39 if [0, 6].contains(&answer.refusal) => {
+            let band = (fault - 30) as usize / 2;
+            let (end, next) = (BANDS[band], BANDS[band + 1]);
+            let (at, ticks) = if fault % 2 == 0 {
+                (end.1, next.2)
+            } else {
+                (next.0, end.2)
+            };
+            if triangles == at {
+                return Own.ask(desk, number, ticks, lead);
+            }
+        }
+        40 if triangles > 99_999_999 => return Own.ask(desk, number, 65_535, lead),
+        _ => (),
+    }
+    answer
+}
+
 #[test]
 fn each_planted_fault_is_found() {
     assert!(calls::compare(&Faulty(0), 6, 2_000).is_ok());
-    for fault in 1..=10 {
+    for fault in (1..=25).chain(30..=40) {
         assert!(
             calls::compare(&Faulty(fault), 6, 20_000).is_err(),
             "fault {fault} went by"
         );
     }
+}
+
+/// Notes what came: the lengths of fronts, the counts in them, by how much a
+/// file's length was off, the works taken, and how often a state was overbooked.
+#[derive(Default)]
+struct Watching {
+    lent: RefCell<BTreeSet<usize>>,
+    counts: RefCell<BTreeSet<u32>>,
+    off: RefCell<BTreeSet<i128>>,
+    taken: RefCell<BTreeSet<u64>>,
+    overbooked: Cell<u32>,
+}
+
+impl Library for Watching {
+    fn open(&self, list: &[u32], start: u64) -> Answer {
+        Own.open(list, start)
+    }
+    fn ask(&self, desk: State, number: u32, work: u32, lead: u32) -> Answer {
+        Own.ask(desk, number, work, lead)
+    }
+    fn ask_mesh(&self, desk: State, head: &[u8], size: u64, number: u32, lead: u32) -> Answer {
+        let answer = Own.ask_mesh(desk, head, size, number, lead);
+        self.lent.borrow_mut().insert(head.len());
+        if let Some(b) = head.get(80..84) {
+            let triangles = u32::from_le_bytes([b[0], b[1], b[2], b[3]]);
+            self.counts.borrow_mut().insert(triangles);
+            let off = i128::from(size) - i128::from(length_of(triangles));
+            self.off.borrow_mut().insert(off);
+        }
+        match answer.refusal {
+            0 => {
+                let last = answer.desk.table.count - 1;
+                let owed = answer.desk.table.jobs[last].owed;
+                self.taken.borrow_mut().insert(owed);
+            }
+            6 if !ahead::never_late(&read(&desk).unwrap()) => {
+                self.overbooked.set(self.overbooked.get() + 1);
+            }
+            _ => (),
+        }
+        answer
+    }
+    fn step(&self, desk: State) -> Stepped {
+        Own.step(desk)
+    }
+    fn end(&self, desk: State, number: u32) -> Answer {
+        Own.end(desk, number)
+    }
+    fn rest(&self, desk: State, position: u32) -> Answer {
+        Own.rest(desk, position)
+    }
+    fn list(&self, desk: State, buffer: &mut [u64]) -> Listed {
+        Own.list(desk, buffer)
+    }
+    fn label(&self, desk: State, jobs: &[u8], feeds: &[u8]) -> Label {
+        Own.label(desk, jobs, feeds)
+    }
+}
+
+#[test]
+fn every_kind_of_mesh_comes() {
+    let watching = Watching::default();
+    calls::compare(&watching, 7, 30_000).unwrap();
+    assert!(watching.lent.borrow().iter().copied().eq(0..=100));
+    let counts = watching.counts.borrow();
+    for (from, to, _) in BANDS {
+        assert!(counts.contains(&from) && counts.contains(&to), "{from}");
+    }
+    assert!(counts.contains(&0));
+    let off = watching.off.borrow();
+    for by in [0, 1, -1, 50, -50, 1 << 32, 1 << 63] {
+        assert!(off.contains(&by), "off by {by} never came");
+    }
+    let works = BANDS.iter().map(|band| u64::from(band.2));
+    assert!(watching.taken.borrow().iter().copied().eq(works));
+    assert!(watching.overbooked.get() > 10);
 }
