@@ -66,7 +66,10 @@ enum {
     DESK_TOO_MUCH_LOAD = 10, /* the feeds alone want more than there is */
     DESK_SHORT_BUFFER = 11,  /* buffer shorter than three numbers a live job */
     DESK_NOT_THREE = 12,     /* feed list length not a multiple of 3 */
-    DESK_NOT_IN_ORDER = 13   /* state not in order */
+    DESK_NOT_IN_ORDER = 13,  /* state not in order */
+    DESK_SHORT_FRONT = 15,   /* fewer than 84 bytes lent of a mesh file */
+    DESK_WRONG_LENGTH = 16,  /* a mesh file's length is not 84 and 50 for each of its triangles */
+    DESK_NO_TRIANGLES = 17   /* a mesh without triangles */
 };
 
 /* The state that a call hands back, the one handed in where it is refused (the empty one for an opening). */
@@ -107,6 +110,11 @@ DeskAnswer desk_open(const uint32_t *list, size_t length, uint64_t start);
 
 /* Asks for a job: taken exactly if it, everything promised and every piece to come can still be done in time. */
 DeskAnswer desk_ask(Desk desk, uint32_t number, uint32_t work, uint32_t lead);
+
+/* Asks for a job by its mesh file itself, a binary STL: `head` is the `lent` bytes from the front of the file, 84 or
+ * more, and `size` the length of the whole file. The work goes by the triangle count that stands there: to 9,999 it is
+ * 4 ticks, to 99,999 16, to 999,999 120, to 9,999,999 900, to 99,999,999 8,000, and above that 65,536. */
+DeskAnswer desk_ask_mesh(Desk desk, const uint8_t *head, size_t lent, uint64_t size, uint32_t number, uint32_t lead);
 
 /* One step of one tick. */
 DeskStepped desk_step(Desk desk);

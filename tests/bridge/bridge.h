@@ -6,7 +6,7 @@
 
 #include "desk.h"
 
-enum { CALL_OPEN = 1, CALL_ASK, CALL_STEP, CALL_END, CALL_REST, CALL_LIST, CALL_LABEL };
+enum { CALL_OPEN = 1, CALL_ASK, CALL_STEP, CALL_END, CALL_REST, CALL_LIST, CALL_LABEL, CALL_ASK_MESH };
 
 _Static_assert(sizeof(DeskFeed) == 32 && sizeof(DeskFeeds) == 520, "feeds");
 _Static_assert(sizeof(DeskJob) == 24 && offsetof(DeskJob, owed) == 8 && sizeof(DeskTable) == 1544, "jobs");

@@ -48,6 +48,17 @@ static void asking(Desk desk) {
     put(&answer, sizeof answer);
 }
 
+static void asking_with_mesh(Desk desk) {
+    size_t lent;
+    uint8_t *head = get_list(&lent);
+    uint64_t size;
+    get(&size, sizeof size);
+    uint32_t number = get_number(), lead = get_number();
+    DeskAnswer answer = desk_ask_mesh(desk, head, lent, size, number, lead);
+    put(&answer, sizeof answer);
+    free(head);
+}
+
 static void stepping(Desk desk) {
     DeskStepped answer = desk_step(desk);
     put(&answer, sizeof answer);
@@ -86,6 +97,7 @@ int main(void) {
         case CALL_REST: answer = desk_rest(desk, get_number()); put(&answer, sizeof answer); break;
         case CALL_LIST: listing(desk); break;
         case CALL_LABEL: labelling(desk); break;
+        case CALL_ASK_MESH: asking_with_mesh(desk); break;
         default: exit(1);
         }
         fflush(stdout);

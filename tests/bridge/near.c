@@ -84,6 +84,17 @@ DeskAnswer desk_ask(Desk desk, uint32_t number, uint32_t work, uint32_t lead) {
     return asked;
 }
 
+DeskAnswer desk_ask_mesh(Desk desk, const uint8_t *head, size_t lent, uint64_t size, uint32_t number, uint32_t lead) {
+    DeskAnswer asked;
+    call(CALL_ASK_MESH, &desk);
+    put_list(head, lent);
+    put(&size, sizeof size);
+    put(&number, sizeof number);
+    put(&lead, sizeof lead);
+    answer(&asked, sizeof asked);
+    return asked;
+}
+
 DeskStepped desk_step(Desk desk) {
     DeskStepped stepped;
     call(CALL_STEP, &desk);
