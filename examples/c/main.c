@@ -1,15 +1,24 @@
-/* A desk from C: opens with two feeds, asks, rests, steps and lists. */
+/* A desk from C: opens with two feeds, asks, rests, steps and lists, and asks with a mesh file. */
 #include "desk.h"
 
 #include <stdio.h>
 
-static Desk asked(Desk desk, uint32_t number, uint32_t work, uint32_t lead) {
-    DeskAnswer answer = desk_ask(desk, number, work, lead);
+static Desk told(uint32_t number, DeskAnswer answer) {
     if (answer.refusal == DESK_YES)
         printf("job %u: yes\n", number);
     else
         printf("job %u: no %u\n", number, answer.refusal);
     return answer.desk;
+}
+
+static Desk asked(Desk desk, uint32_t number, uint32_t work, uint32_t lead) {
+    return told(number, desk_ask(desk, number, work, lead));
+}
+
+/* The front of a file of 12,345 triangles (0x3039), behind an empty header. */
+static Desk asked_with_mesh(Desk desk, uint64_t size, uint32_t number, uint32_t lead) {
+    static const uint8_t head[84] = {[80] = 0x39, [81] = 0x30};
+    return told(number, desk_ask_mesh(desk, head, sizeof head, size, number, lead));
 }
 
 static Desk stepped(Desk desk) {
@@ -64,6 +73,9 @@ int main(void) {
     listed(desk);
     for (int i = 0; i < 4; i++)
         desk = stepped(desk);
+    desk = asked_with_mesh(desk, 617284, 3, 40); /* its last triangle is missing */
+    desk = asked_with_mesh(desk, 617334, 3, 40);
+    listed(desk);
     desk.clock = desk.clock + 1000000;
     desk.table.count = 65;
     desk = stepped(desk);

@@ -75,6 +75,7 @@ pub struct Label {
 extern "C" {
     fn desk_open(list: *const u32, length: usize, start: u64) -> Answer;
     fn desk_ask(desk: Desk, number: u32, work: u32, lead: u32) -> Answer;
+    fn desk_ask_mesh(desk: Desk, head: *const u8, lent: usize, size: u64, number: u32, lead: u32) -> Answer;
     fn desk_step(desk: Desk) -> Stepped;
     fn desk_end(desk: Desk, number: u32) -> Answer;
     fn desk_rest(desk: Desk, position: u32) -> Answer;
@@ -91,6 +92,10 @@ pub fn open(list: &[u32], start: u64) -> Answer {
 impl Desk {
     pub fn ask(self, number: u32, work: u32, lead: u32) -> Answer {
         unsafe { desk_ask(self, number, work, lead) }
+    }
+
+    pub fn ask_mesh(self, head: &[u8], size: u64, number: u32, lead: u32) -> Answer {
+        unsafe { desk_ask_mesh(self, head.as_ptr(), head.len(), size, number, lead) }
     }
 
     pub fn step(self) -> Stepped {

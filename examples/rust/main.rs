@@ -2,15 +2,25 @@
 
 mod desk;
 
-use desk::Desk;
+use desk::{Answer, Desk};
 
-fn asked(desk: Desk, number: u32, work: u32, lead: u32) -> Desk {
-    let answer = desk.ask(number, work, lead);
+fn told(number: u32, answer: Answer) -> Desk {
     match answer.refusal {
         0 => println!("job {number}: yes"),
         refusal => println!("job {number}: no {refusal}"),
     }
     answer.desk
+}
+
+fn asked(desk: Desk, number: u32, work: u32, lead: u32) -> Desk {
+    told(number, desk.ask(number, work, lead))
+}
+
+/// The front of a file of 12,345 triangles, behind an empty header.
+fn asked_with_mesh(desk: Desk, size: u64, number: u32, lead: u32) -> Desk {
+    let mut head = [0; 84];
+    head[80..].copy_from_slice(&12_345u32.to_le_bytes());
+    told(number, desk.ask_mesh(&head, size, number, lead))
 }
 
 fn stepped(desk: Desk) -> Desk {
@@ -61,6 +71,9 @@ fn main() {
     for _ in 0..4 {
         desk = stepped(desk);
     }
+    desk = asked_with_mesh(desk, 617_284, 3, 40); // its last triangle is missing
+    desk = asked_with_mesh(desk, 617_334, 3, 40);
+    listed(desk);
     desk.clock += 1_000_000;
     desk.table.count = 65;
     stepped(desk);
