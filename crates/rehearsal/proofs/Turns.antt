@@ -28,7 +28,7 @@ use Rattle.desk.proofs.Promises.{an-opening-is-good}
 use Rattle.rehearsal.specs.declared.Turn.{Turn}
 use lib.Dec.{leb, ltb}
 use Rattle.desk.specs.Calls as calls
-use Rattle.rehearsal.specs.declared.Said.{Said}
+use Rattle.sayings.specs.declared.Said.{Said}
 use borrow.Author.Tests.{lt-ltb, le-ltb}
 use Rattle.ticks.specs.Ticks.{lastInstant}
 use Rattle.feeds.specs.Feeds.{live as liveFeeds}

@@ -10,7 +10,7 @@ use Rattle.words.specs.Fields.{lineEnd}
 use Rattle.words.specs.Lines.{lineOf}
 use Rattle.desk.specs.declared.Answer.{Answer}
 use Rattle.desk.specs.Asking.{Asked}
-use Rattle.rehearsal.specs.declared.Said.{Said}
+use Rattle.sayings.specs.declared.Said.{Said}
 use Rattle.rehearsal.specs.declared.Session.{Session}
 use Rattle.rehearsal.specs.declared.Turn.{Turn}
 use Rattle.rehearsal.specs.declared.Place.{Place}

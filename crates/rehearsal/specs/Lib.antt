@@ -1,3 +1,2 @@
 pub mod Session
 pub mod Hearing
-pub mod Texts

@@ -13,7 +13,7 @@ use Rattle.refusals.specs.Refusals.{numberOf, answerOf}
 use Rattle.desk.specs.State.{empty}
 use Rattle.desk.specs.Opening.{openedOf}
 use Rattle.desk.specs.Calls as desk
-use Rattle.rehearsal.specs.declared.Said.{Said}
+use Rattle.sayings.specs.declared.Said.{Said}
 use Rattle.rehearsal.specs.declared.Session.{Session}
 use Rattle.rehearsal.specs.declared.Turn.{Turn}
 

@@ -1,7 +1,8 @@
 // The rehearsal: a session over the desk that hears one line after another and tells what each answers.
-// It must not know input and output: the text is lent to it, and so is the buffer that its answers go into.
+// It must not know input and output, nor the words of an answer: the text is lent to it, and the words are the sayings'.
 use desk::Desk;
 use refusals::Refusal;
+use sayings::Said;
 use serving::Who;
 use ticks::Instant;
 use words::Found;
@@ -12,22 +13,6 @@ ghost use lib.ListN.{length};
 ghost use Rattle.desk.specs.State.{Good};
 ghost use Rattle.rehearsal.specs.Session.{begun, badOf, feedOf, goOf, endOf, restOf, runOf, tickOf, stoppedOf};
 ghost use Rattle.rehearsal.specs.Hearing.{AskOf, Heard, Answers};
-
-pub mod put;
-
-// What an answer says; a refusal is told by its number, and 0 is a yes.
-pub enum Said {
-    Nothing,
-    Bad(usize),
-    Go(u32),
-    Ask(u32, u32),
-    End(u32),
-    Rest(u32),
-    Job(u64, u32),
-    Feed(u64, u32),
-    Idle(u64),
-    Stopped(u32),
-}
 
 // What was heard so far: the desk, the numbers of the feed lines, whether the desk is open, whether the rehearsal is
 // over, and how many ticks of a run are left.

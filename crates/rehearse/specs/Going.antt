@@ -3,7 +3,7 @@ use mathlib.Core.List.{List}
 use Prim.Native.Nat.{ℕ, _≤_, _<_}
 use lib.ListN.{length}
 use Rattle.rehearsal.specs.declared.Session.{Session}
-use Rattle.rehearsal.specs.Texts.{mostText}
+use Rattle.sayings.specs.Texts.{mostText}
 use Rattle.desk.specs.State.{Good}
 use Rattle.rehearse.specs.declared.Going.{Going}
 

@@ -3,11 +3,11 @@
 use libc::STDIN_FILENO;
 use libc::STDOUT_FILENO;
 use rehearsal::Place;
-use rehearsal::Said;
 use rehearsal::Session;
+use sayings::Said;
 ghost use Prim.Native.Nat.{_+_, _≤_, _<_};
 ghost use lib.ListN.{length};
-ghost use Rattle.rehearsal.specs.Texts.{mostText};
+ghost use Rattle.sayings.specs.Texts.{mostText};
 ghost use Rattle.rehearse.specs.Going.{Filled, Ready, Onto};
 
 // A session under way: where it stands in the input, and how many bytes of the buffer wait to be written.
@@ -28,7 +28,7 @@ fn place_in(out: &[u8], at: usize) -> usize
     requires { ⌜ (at ≤ length (now out)) × (mostText ≤ length (now out)) ⌝ }
     ensures { λ r. ⌜ r + mostText ≤ length (now (out .entry)) ⌝ }
 {
-    if rehearsal::put::MOST <= out.len() - at {
+    if sayings::put::MOST <= out.len() - at {
         return at;
     }
     io::write_all(STDOUT_FILENO, &out[..at]);
@@ -40,7 +40,7 @@ fn tell(out: &mut [u8], at: usize, said: Said) -> usize
     ensures { λ r. ⌜ r ≤ length (now (out .entry)) ⌝ }
 {
     let to = place_in(out, at);
-    rehearsal::put::said(out, to, said)
+    sayings::put::said(out, to, said)
 }
 
 // The ticks of a run, if one is under way.

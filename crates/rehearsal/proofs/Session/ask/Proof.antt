@@ -2,7 +2,7 @@ use mathlib.Core.Path.{_≡_}
 use mathlib.Core.Bool.{true, false}
 use borrow.Author.Tests.{not-true, not-false}
 use Rattle.refusals.specs.Refusals.{answerOf}
-use Rattle.rehearsal.specs.declared.Said.{Said}
+use Rattle.sayings.specs.declared.Said.{Said}
 use Rattle.rehearsal.specs.Session.{withDesk}
 use Rattle.rehearsal.proofs.Turns.{never}
 use borrow.Author.Needs.{needs}

@@ -6,7 +6,7 @@ use native.Mathlib.Omega.{arith}
 use borrow.Author.Tests.{lt-ltb, le-ltb}
 use Rattle.lists.proofs.Places.{length-mapped}
 use Rattle.refusals.specs.Refusals.{answerOf}
-use Rattle.rehearsal.specs.declared.Said.{Said}
+use Rattle.sayings.specs.declared.Said.{Said}
 use Rattle.rehearsal.specs.Session.{goOf, goneOf, mostFeedLines}
 use borrow.Author.Needs.{needs}
 use Rattle.rehearsal.proofs.Session.go.Statement.{statement}

@@ -1,4 +1,4 @@
-use Rattle.rehearsal.specs.declared.Said.{Said}
+use Rattle.sayings.specs.declared.Said.{Said}
 use Rattle.rehearsal.specs.Session.{withLeft}
 use borrow.Author.Needs.{needs}
 use Rattle.rehearsal.proofs.Session.stopped.Statement.{statement}

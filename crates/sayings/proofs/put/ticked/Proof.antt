@@ -2,11 +2,11 @@ use native.Mathlib.Omega.{arith}
 use Rattle.words.proofs.Numbers.{digits-wide}
 use Rattle.words.proofs.Texts.{put-length, put-after}
 use borrow.Author.Needs.{needs}
-use Rattle.rehearsal.proofs.put.ticked.Statement.{statement}
-use Rattle.rehearsal.proofs.put.ticked.Tie as tie
-use Rattle.rehearsal.proofs.put.ticked.Reads as reads
-use Rattle.rehearsal.proofs.put.ticked.Lts as lts
-use Rattle.rehearsal.proofs.put.worded.Reads as worded-reads
+use Rattle.sayings.proofs.put.ticked.Statement.{statement}
+use Rattle.sayings.proofs.put.ticked.Tie as tie
+use Rattle.sayings.proofs.put.ticked.Reads as reads
+use Rattle.sayings.proofs.put.ticked.Lts as lts
+use Rattle.sayings.proofs.put.worded.Reads as worded-reads
 use Rattle.words.proofs.put.number.Reads as number-reads
 
 -- src/put.rt:53:9

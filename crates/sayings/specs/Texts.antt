@@ -5,7 +5,7 @@ use Prim.Native.Nat.{ℕ}
 use lib.Dec.{eqb}
 use Rattle.words.specs.Text.{spelt}
 use Rattle.words.specs.Numbers.{digits}
-use Rattle.rehearsal.specs.declared.Said.{Said}
+use Rattle.sayings.specs.declared.Said.{Said}
 
 -- no answer is longer than this
 abbrev pub mostText : ℕ

@@ -5,7 +5,7 @@ ghost use Prim.Native.Nat.{_+_, _≤_};
 ghost use lib.ListN.{length};
 ghost use Rattle.words.specs.Put.{Put};
 ghost use Rattle.words.specs.Numbers.{digits};
-ghost use Rattle.rehearsal.specs.Texts.{mostText, verdictText, callText, askText, tickText, textOf};
+ghost use Rattle.sayings.specs.Texts.{mostText, verdictText, callText, askText, tickText, textOf};
 
 // No answer is longer than this.
 pub const MOST: usize = 64;

@@ -2,10 +2,10 @@ use native.Mathlib.Omega.{arith}
 use Rattle.words.proofs.Numbers.{digits-wide}
 use Rattle.words.proofs.Texts.{put-length, put-after}
 use borrow.Author.Needs.{needs}
-use Rattle.rehearsal.proofs.put.worded.Statement.{statement}
-use Rattle.rehearsal.proofs.put.worded.Tie as tie
-use Rattle.rehearsal.proofs.put.worded.Reads as reads
-use Rattle.rehearsal.proofs.put.worded.Lts as lts
+use Rattle.sayings.proofs.put.worded.Statement.{statement}
+use Rattle.sayings.proofs.put.worded.Tie as tie
+use Rattle.sayings.proofs.put.worded.Reads as reads
+use Rattle.sayings.proofs.put.worded.Lts as lts
 use Rattle.words.proofs.put.number.Reads as number-reads
 use Rattle.words.proofs.put.text.Reads as text-reads
 
