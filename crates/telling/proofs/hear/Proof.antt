@@ -1,22 +1,22 @@
 use Rattle.rehearsal.proofs.Turns.{read-on, read-good}
 use borrow.Author.Needs.{needs}
-use Rattle.rehearse.proofs.hear.Statement.{statement}
-use Rattle.rehearse.proofs.hear.Tie as tie
-use Rattle.rehearse.proofs.hear.Reads as reads
-use Rattle.rehearse.proofs.hear.Lts as lts
+use Rattle.telling.proofs.hear.Statement.{statement}
+use Rattle.telling.proofs.hear.Tie as tie
+use Rattle.telling.proofs.hear.Reads as reads
+use Rattle.telling.proofs.hear.Lts as lts
 use Rattle.rehearsal.proofs.Session.read.Reads as read-reads
-use Rattle.rehearse.proofs.run.Reads as run-reads
-use Rattle.rehearse.proofs.tell.Reads as tell-reads
+use Rattle.telling.proofs.run.Reads as run-reads
+use Rattle.telling.proofs.tell.Reads as tell-reads
 
--- src/main.rt:71:9
+-- src/lib.rt:71:9
 read-requires : tie.Need-read-requires
 read-requires c κs = search needs
 
--- src/main.rt:76:9
+-- src/lib.rt:76:9
 tell-requires : tie.Need-tell-requires
 tell-requires c κs = search needs
 
--- src/main.rt:77:9
+-- src/lib.rt:77:9
 run-requires : tie.Need-run-requires
 run-requires c κs =
     let g = c .before .before .before .before .before .before .before .before .before .before .before .args .going in
@@ -26,11 +26,11 @@ run-requires c κs =
       large = search needs;
     }
 
--- src/main.rt:66:1
+-- src/lib.rt:66:1
 same-length : tie.Need-same-length
 same-length c = search needs
 
--- src/main.rt:66:1
+-- src/lib.rt:66:1
 returns : tie.Need-returns
 returns c =
     let g = c .before .before .before .before .before .before .before .before .before .before .before .before .before .before .before .args .going in

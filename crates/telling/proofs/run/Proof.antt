@@ -1,17 +1,17 @@
 use mathlib.Core.Path.{subst, sym, _≡_, refl, ap}
 use Rattle.desk.specs.State.{Good}
 use Rattle.rehearsal.proofs.Turns.{tick-good, tick-less}
-use Rattle.rehearse.specs.Going.{Filled}
+use Rattle.telling.specs.Going.{Filled}
 use lib.ListN.{length}
 use native.Mathlib.Omega.{arith}
 use borrow.Author.Needs.{needs}
 use Rattle.rehearsal.specs.Session.{tickOf}
-use Rattle.rehearse.proofs.run.Statement.{statement}
-use Rattle.rehearse.proofs.run.Tie as tie
-use Rattle.rehearse.proofs.run.Reads as reads
-use Rattle.rehearse.proofs.run.Lts as lts
+use Rattle.telling.proofs.run.Statement.{statement}
+use Rattle.telling.proofs.run.Tie as tie
+use Rattle.telling.proofs.run.Reads as reads
+use Rattle.telling.proofs.run.Lts as lts
 use Rattle.rehearsal.proofs.Session.tick.Reads as tick-reads
-use Rattle.rehearse.proofs.tell.Reads as tell-reads
+use Rattle.telling.proofs.tell.Reads as tell-reads
 
 abbrev Inv-loop : tie.InvT-loop
 Inv-loop out₀ session₀ at₀ out session at = (length out ≡ length out₀) × Filled out session at
@@ -19,26 +19,26 @@ Inv-loop out₀ session₀ at₀ out session at = (length out ≡ length out₀)
 abbrev μ-loop : tie.MeasureT-loop
 μ-loop out₀ session₀ at₀ out session at = session .left
 
--- src/main.rt:53:5
+-- src/lib.rt:53:5
 loop-holds : tie.Need-loop-holds Inv-loop μ-loop
 loop-holds c = (refl, c .before .before .pre)
 
--- src/main.rt:54:13
+-- src/lib.rt:54:13
 tick-requires : tie.Need-tick-requires Inv-loop μ-loop
 tick-requires c κs = (search needs, c .before .before .loop .inv .1 .good)
 
--- src/main.rt:57:9
+-- src/lib.rt:57:9
 tell-requires : tie.Need-tell-requires Inv-loop μ-loop
 tell-requires c κs = (search needs, search needs)
 
--- src/main.rt:53:5
+-- src/lib.rt:53:5
 loop-less : tie.Need-loop-less Inv-loop μ-loop
 loop-less c =
     let s = c .before .before .before .before .before .before .before .before .loop .session in
     let e : c .before .before .before .before .before .tick .result .session .left ≡ tickOf s .session .left = ap (λ t. t .session .left) (c .before .before .before .before .before .tick .ensures) in
     omega (arith, e, tick-less s (omega arith))
 
--- src/main.rt:53:5
+-- src/lib.rt:53:5
 loop-again : tie.Need-loop-again Inv-loop μ-loop
 loop-again c =
     let f = c .before .before .before .before .before .before .before .before .loop .inv .1 in (
@@ -50,11 +50,11 @@ loop-again c =
       },
     )
 
--- src/main.rt:47:1
+-- src/lib.rt:47:1
 same-length : tie.Need-same-length Inv-loop μ-loop
 same-length c = search needs
 
--- src/main.rt:47:1
+-- src/lib.rt:47:1
 returns : tie.Need-returns Inv-loop μ-loop
 returns c =
     let f = c .before .before .loop .inv .1 in

@@ -1,18 +1,18 @@
 use mathlib.Core.Path.{subst, sym, _≡_, refl}
 use Rattle.desk.specs.State.{Good}
 use Rattle.rehearsal.proofs.Turns.{empty-is-good}
-use Rattle.rehearse.specs.Going.{Filled}
+use Rattle.telling.specs.Going.{Filled}
 use Prim.Native.Nat.{_≤_, _-_}
 use lib.ListN.{length, length-take}
 use native.Mathlib.Omega.{arith}
 use borrow.Author.Needs.{needs}
-use Rattle.rehearse.proofs.rehearse.Statement.{statement}
-use Rattle.rehearse.proofs.rehearse.Tie as tie
-use Rattle.rehearse.proofs.rehearse.Reads as reads
-use Rattle.rehearse.proofs.rehearse.Lts as lts
+use Rattle.telling.proofs.hear_all.Statement.{statement}
+use Rattle.telling.proofs.hear_all.Tie as tie
+use Rattle.telling.proofs.hear_all.Reads as reads
+use Rattle.telling.proofs.hear_all.Lts as lts
 use Rattle.io.proofs.write_all.Reads as write-all-reads
 use Rattle.rehearsal.proofs.Session.begin.Reads as begin-reads
-use Rattle.rehearse.proofs.hear.Reads as hear-reads
+use Rattle.telling.proofs.hear.Reads as hear-reads
 
 abbrev Inv-loop : tie.InvT-loop
 Inv-loop input out₀ going₀ out going =
@@ -24,11 +24,11 @@ Inv-loop input out₀ going₀ out going =
 abbrev μ-loop : tie.MeasureT-loop
 μ-loop input out₀ going₀ out going = length input - going .place .from
 
--- src/main.rt:89:18
+-- src/lib.rt:89:18
 begin-requires : tie.Need-begin-requires Inv-loop μ-loop
 begin-requires c κs = search needs
 
--- src/main.rt:96:5
+-- src/lib.rt:96:5
 loop-holds : tie.Need-loop-holds Inv-loop μ-loop
 loop-holds c = (
   refl,
@@ -37,44 +37,44 @@ loop-holds c = (
   record { good = subst (λ s. Good (s .desk)) (sym (c .begin .ensures)) empty-is-good; filled = omega arith; large = omega arith },
 )
 
--- src/main.rt:100:29
+-- src/lib.rt:100:29
 slice-aggregate-hear : tie.Need-slice-aggregate-hear Inv-loop μ-loop
 slice-aggregate-hear c = search needs
 
--- src/main.rt:100:9
+-- src/lib.rt:100:9
 hear-requires : tie.Need-hear-requires Inv-loop μ-loop
 hear-requires c κs =
     let f = c .before .before .before .before .loop .inv .3 in
     record { more = search needs; lines = search needs; buffer = f }
 
--- src/main.rt:96:5
+-- src/lib.rt:96:5
 loop-less : tie.Need-loop-less Inv-loop μ-loop
 loop-less c = omega (arith, c .before .hear .ensures .further, c .before .hear .ensures .inside)
 
--- src/main.rt:96:5
+-- src/lib.rt:96:5
 loop-again : tie.Need-loop-again Inv-loop μ-loop
 loop-again c =
     let o = c .before .hear .ensures in
     (search needs, search needs, search needs, record { good = o .buffer .good; filled = search needs; large = search needs })
 
--- src/main.rt:103:34
+-- src/lib.rt:103:34
 array-share-prefix-out : tie.Need-array-share-prefix-out Inv-loop μ-loop
 array-share-prefix-out c = omega arith
 
--- src/main.rt:103:34
+-- src/lib.rt:103:34
 slice-aggregate-write-all : tie.Need-slice-aggregate-write-all Inv-loop μ-loop
 slice-aggregate-write-all c = simp length-take (omega arith)
 
--- src/main.rt:103:5
+-- src/lib.rt:103:5
 write-all-requires : tie.Need-write-all-requires Inv-loop μ-loop
 write-all-requires c κs = search needs
 
--- src/main.rt:86:1
+-- src/lib.rt:86:1
 returns : tie.Need-returns Inv-loop μ-loop
 returns c = search needs
 
-pub rehearse-spec : {M : Type 1} → statement M
-rehearse-spec =
+pub hear-all-spec : {M : Type 1} → statement M
+hear-all-spec =
     tie.close
     (tie.spec
     Inv-loop

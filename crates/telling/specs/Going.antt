@@ -5,7 +5,7 @@ use lib.ListN.{length}
 use Rattle.rehearsal.specs.declared.Session.{Session}
 use Rattle.sayings.specs.Texts.{mostText}
 use Rattle.desk.specs.State.{Good}
-use Rattle.rehearse.specs.declared.Going.{Going}
+use Rattle.telling.specs.declared.Going.{Going}
 
 -- the desk is as a call hands it back, and the buffer has room for an answer once what waits is written
 pub record Filled (out : List ℕ) (s : Session) (at : ℕ) : Type 0 where

@@ -1,29 +1,29 @@
 use native.Mathlib.Omega.{arith}
 use lib.ListN.{length-take}
 use borrow.Author.Needs.{needs}
-use Rattle.rehearse.proofs.place_in.Statement.{statement}
-use Rattle.rehearse.proofs.place_in.Tie as tie
-use Rattle.rehearse.proofs.place_in.Reads as reads
-use Rattle.rehearse.proofs.place_in.Lts as lts
+use Rattle.telling.proofs.place_in.Statement.{statement}
+use Rattle.telling.proofs.place_in.Tie as tie
+use Rattle.telling.proofs.place_in.Reads as reads
+use Rattle.telling.proofs.place_in.Lts as lts
 use Rattle.io.proofs.write_all.Reads as write-all-reads
 
--- src/main.rt:31:32
+-- src/lib.rt:31:32
 sub-if1 : tie.Need-sub-if1
 sub-if1 c = search needs
 
--- src/main.rt:32:9
+-- src/lib.rt:32:9
 returns : tie.Need-returns
 returns c = search needs
 
--- src/main.rt:34:34
+-- src/lib.rt:34:34
 slice-aggregate-write-all : tie.Need-slice-aggregate-write-all
 slice-aggregate-write-all c = simp length-take (omega arith)
 
--- src/main.rt:34:5
+-- src/lib.rt:34:5
 write-all-requires : tie.Need-write-all-requires
 write-all-requires c κs = search needs
 
--- src/main.rt:27:1
+-- src/lib.rt:27:1
 returns-2 : tie.Need-returns-2
 returns-2 c = search needs
 
