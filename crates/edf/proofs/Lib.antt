@@ -15,5 +15,6 @@ pub mod Kept
 pub mod Rounds
 pub mod Opening
 pub mod Horizon
+pub mod Margin
 pub mod Promises
 pub mod Examples

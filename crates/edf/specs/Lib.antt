@@ -10,4 +10,5 @@ pub mod Steps
 pub mod Order
 pub mod Calls
 pub mod Load
+pub mod Margin
 pub mod Kept
