@@ -20,7 +20,7 @@ ghost use Rattle.room.specs.Owed.{later, earlier, lastOf, horizonOf};
 ghost use Rattle.room.specs.Walk.{Until, RoomSays, FitsSays};
 
 // A job counts from its deadline on.
-fn job_owes(job: Job, by: Instant) -> u64
+pub fn job_owes(job: Job, by: Instant) -> u64
     ensures { λ r. ⌜ r ≡ jobOwes (by .0) job ⌝ }
 {
     if job.deadline.0 <= by.0 {
@@ -30,7 +30,7 @@ fn job_owes(job: Job, by: Instant) -> u64
 }
 
 // The customers' part of what is owed by an instant.
-fn jobs_owe(table: Table, by: Instant) -> u64
+pub fn jobs_owe(table: Table, by: Instant) -> u64
     requires { ⌜ (table .count ≤ mostJobs) × Each Modest (liveJobs table) ⌝ }
     ensures { λ r. ⌜ (r ≡ total (jobOwes (by .0)) (liveJobs table)) × (r ≤ mostJobs * mostJob) ⌝ }
 {
@@ -65,7 +65,7 @@ fn feed_owes(feed: Feed, clock: Instant, by: Instant) -> u64
 }
 
 // The printers' part of what is owed by an instant.
-fn feeds_owe(feeds: Feeds, clock: Instant, by: Instant) -> u64
+pub fn feeds_owe(feeds: Feeds, clock: Instant, by: Instant) -> u64
     requires { ⌜ (feeds .count ≤ mostFeeds) × Each (FeedOrdered clock) (liveFeeds feeds) × Reach clock by ⌝ }
     ensures { λ r. ⌜ (r ≡ total (feedOwes (clock .0) (by .0)) (liveFeeds feeds)) × (r ≤ mostFeeds * mostOfFeed) ⌝ }
 {
@@ -78,7 +78,7 @@ fn feeds_owe(feeds: Feeds, clock: Instant, by: Instant) -> u64
 }
 
 // All that is owed by an instant.
-fn owed_by(clock: Instant, feeds: Feeds, table: Table, by: Instant) -> Length
+pub fn owed_by(clock: Instant, feeds: Feeds, table: Table, by: Instant) -> Length
     requires { ⌜ Ordered clock feeds table × Reach clock by ⌝ }
     ensures { λ r. ⌜ r ≡ ticks (owedBy (bookOf clock (liveFeeds feeds) (liveJobs table)) (by .0)) ⌝ }
 {
@@ -145,7 +145,7 @@ fn feeds_due_after(feeds: Feeds, clock: Instant, by: Instant, till: Instant) -> 
 }
 
 // The next instant at which something is due, or the last that is of interest.
-fn next_due(clock: Instant, feeds: Feeds, table: Table, by: Instant, till: Instant) -> Instant
+pub fn next_due(clock: Instant, feeds: Feeds, table: Table, by: Instant, till: Instant) -> Instant
     requires { ⌜ Ordered clock feeds table × Reach clock by × (by .0 < till .0) ⌝ }
     ensures { λ r. ⌜ Until (owedBy (bookOf clock (liveFeeds feeds) (liveJobs table))) (by .0) (till .0) (r .0) ⌝ }
 {
@@ -189,7 +189,7 @@ fn last_release(feeds: Feeds, clock: Instant, from: Instant) -> Instant
 }
 
 // A round past the last deadline and the last of the next releases everything has come back.
-fn horizon(clock: Instant, feeds: Feeds, table: Table) -> Instant
+pub fn horizon(clock: Instant, feeds: Feeds, table: Table) -> Instant
     requires { ⌜ Ordered clock feeds table ⌝ }
     ensures { λ r. ⌜ r ≡ instant (horizonOf clock (liveFeeds feeds) (liveJobs table)) ⌝ }
 {
