@@ -24,14 +24,16 @@ use Rattle.ledger.proofs.Reading.{jobs-of-book}
 use Rattle.room.specs.Owed.{Ordered}
 use Rattle.desk.specs.declared.Desk.{Desk}
 use Rattle.desk.specs.declared.Answer.{Answer}
+use Rattle.desk.specs.declared.Request.the-variants as request
 use Rattle.refusals.specs.declared.Refusal.{Refusal}
+use Rattle.refusals.specs.declared.Refusal.the-variants.{NotInOrder}
 use Rattle.refusals.specs.declared.Verdict.{Verdict}
 use Rattle.refusals.specs.declared.Verdict.the-variants.{Yes, No}
 use Rattle.desk.specs.State.{inOrder, book, deskOf, Sized}
 use Rattle.refusals.proofs.Refusals.{yes-is-not-no}
 use Rattle.refusals.specs.Refusals.{Line, firstOf}
 use Rattle.desk.specs.Calls.{disorder}
-use Rattle.desk.specs.Asking.{askLines, requested, with-job, Admissible, Judged, Asked}
+use Rattle.desk.specs.Asking.{askLines, requested, requestBy, requestOf, with-job, Admissible, Judged, Asked}
 use Rattle.desk.proofs.State.{in-order}
 use Rattle.desk.proofs.Calls.{few-feeds, few-jobs, feeds-back}
 
@@ -67,6 +69,51 @@ admissible d number work lead s o e =
       free = lacks-times number (liveJobs (d .table)) (not-false _ (t .1 .1 .1 .0));
       space = ltb-true _ _ (not-false _ (t .1 .1 .1 .1 .0));
     }
+
+-- the request as the lines leave it, and what it says of them
+module _ (d : Desk) (number work lead : ℕ) where
+  abbrev lines : List Line
+  lines = disorder d ∷ askLines d number (ticks work) (ticks lead)
+
+  pub request-stopped : (x : Refusal) → firstOf (disorder d ∷ askLines d number (ticks work) (ticks lead)) ≡ No x → request.No x ≡ requestOf d number work lead
+  unfolding requestOf
+  request-stopped x e = ap (λ v. requestBy v (requested d number work lead)) (sym e)
+
+  pub request-made : firstOf (disorder d ∷ askLines d number (ticks work) (ticks lead)) ≡ Yes → request.Job (requested d number work lead) ≡ requestOf d number work lead
+  unfolding requestOf
+  request-made e = ap (λ v. requestBy v (requested d number work lead)) (sym e)
+
+  pub request-no : (x : Refusal) → requestOf d number work lead ≡ request.No x → firstOf (disorder d ∷ askLines d number (ticks work) (ticks lead)) ≡ No x
+  unfolding requestOf
+  request-no x h = go (firstOf lines) refl h
+    where
+      go : (v : Verdict) → firstOf lines ≡ v → requestBy v (requested d number work lead) ≡ request.No x → firstOf lines ≡ No x
+      go Yes e k = absurd (let z : _≡_ {A = ℕ} 0 1 = cc in omega arith)
+      go (No y) e k = let same : y ≡ x = cc in e ∙ ap No same
+
+  pub request-job : (j : Job) → requestOf d number work lead ≡ request.Job j
+      → (firstOf (disorder d ∷ askLines d number (ticks work) (ticks lead)) ≡ Yes) × (j ≡ requested d number work lead)
+  unfolding requestOf
+  request-job j h = go (firstOf lines) refl h
+    where
+      go : (v : Verdict) → firstOf lines ≡ v → requestBy v (requested d number work lead) ≡ request.Job j → (firstOf lines ≡ Yes) × (j ≡ requested d number work lead)
+      go Yes e k = (e, cc)
+      go (No y) e k = absurd (let z : _≡_ {A = ℕ} 0 1 = cc in omega arith)
+
+-- past line 13
+pub lines-pass : (d : Desk) (number work lead : ℕ) → firstOf (disorder d ∷ askLines d number (ticks work) (ticks lead)) ≡ Yes
+    → (inOrder d ≡ true) × (firstOf (askLines d number (ticks work) (ticks lead)) ≡ Yes)
+unfolding firstOf
+lines-pass d number work lead e =
+    let t = all-pass (disorder d ∷ askLines d number (ticks work) (ticks lead)) e in
+    (not-false _ (t .0), sym (ap (λ b. cond b (No NotInOrder) (firstOf (askLines d number (ticks work) (ticks lead)))) (t .0)) ∙ e)
+
+-- the job that is asked for, where no line stops the request
+pub request-admissible : (d : Desk) (number work lead : ℕ) (j : Job) → Sized d → requestOf d number work lead ≡ request.Job j → Admissible d j
+request-admissible d number work lead j s h =
+    let k = request-job d number work lead j h in
+    let p = lines-pass d number work lead (k .0) in
+    subst (Admissible d) (sym (k .1)) (admissible d number work lead s (p .0) (p .1))
 
 -- one more job, read
 book-append : (js : List Job) (j : Job) → map bookJob (js ++ (j ∷ [])) ≡ map bookJob js ++ (bookJob j ∷ [])

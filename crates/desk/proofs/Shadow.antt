@@ -34,7 +34,7 @@ use Rattle.refusals.specs.declared.Refusal.the-variants.{DoesNotFit, NotInOrder
 use Rattle.desk.specs.Asking.{askLines, requested, with-job, Admissible, Judged, Asked}
 use Rattle.desk.specs.Runs.{Call, ask, step, end, rest, look, Right, after, run, AllRight, whoRan, names, named}
 use Rattle.desk.proofs.State.{book-of-desk}
-use Rattle.desk.proofs.Asking.{all-pass, admissible}
+use Rattle.desk.proofs.Asking.{all-pass, admissible, lines-pass}
 use Rattle.desk.proofs.Reachable.{good-desk, good-held, held-step, held-ending, held-resting, held-taking, admissible-askable}
 
 -- nothing happens: an ask for no work, refused
@@ -156,14 +156,6 @@ refused-followed d number work lead answer x g e =
     (ap (λ a. ifYes (a .verdict) (calls.asked (bookJob (requested d number work lead)) true)) e)
     (λ w busy. refl)
 
--- past line 13
-pub lines-pass : (d : Desk) (number work lead : ℕ) → firstOf (disorder d ∷ askLines d number (ticks work) (ticks lead)) ≡ Yes
-    → firstOf (askLines d number (ticks work) (ticks lead)) ≡ Yes
-unfolding firstOf
-lines-pass d number work lead e =
-    let t = all-pass (disorder d ∷ askLines d number (ticks work) (ticks lead)) e in
-    sym (ap (λ b. cond b (No NotInOrder) (firstOf (askLines d number (ticks work) (ticks lead)))) (t .0)) ∙ e
-
 ask-followed : (d : Desk) (number work lead : ℕ) (answer : Answer) → Good d → Asked d number work lead answer → Followed (ask number work lead answer) d
 unfolding after shadow names calls.after calls.names calls.Right Judged
 ask-followed d number work lead answer g a = go (firstOf lines) refl
@@ -193,7 +185,7 @@ ask-followed d number work lead answer g a = go (firstOf lines) refl
     judge m (inr f) = refused-followed d number work lead answer DoesNotFit g (f .1)
 
     go : (v : Verdict) → firstOf lines ≡ v → Followed (ask number work lead answer) d
-    go Yes e = judge (admissible d number work lead (g .sized) (g .order) (lines-pass d number work lead e)) (a .judged e)
+    go Yes e = judge (admissible d number work lead (g .sized) (g .order) (lines-pass d number work lead e .1)) (a .judged e)
     go (No x) e = refused-followed d number work lead answer x g (a .stopped x e)
 
 -- EVERY CALL IS FOLLOWED

@@ -15,8 +15,11 @@ use Rattle.edf.specs.Calls.{taking}
 use Rattle.ledger.specs.Reading.{bookJob}
 use Rattle.desk.specs.declared.Desk.{Desk}
 use Rattle.desk.specs.declared.Answer.{Answer}
+use Rattle.desk.specs.declared.Request.{Request}
+use Rattle.desk.specs.declared.Request.the-variants as request
 use Rattle.refusals.specs.declared.Refusal.{Refusal}
 use Rattle.refusals.specs.declared.Refusal.the-variants.{NumberZero, Outside, PastLast, NumberLive, Full, DoesNotFit}
+use Rattle.refusals.specs.declared.Verdict.{Verdict}
 use Rattle.refusals.specs.declared.Verdict.the-variants.{Yes, No}
 use Rattle.refusals.specs.Refusals.{Line, line, firstOf}
 use Rattle.desk.specs.Calls.{disorder}
@@ -41,6 +44,15 @@ askLines d number work lead =
 abbrev pub requested : Desk → ℕ → ℕ → ℕ → Job
 requested d number work lead =
     record { number = number; owed = ticks work; deadline = plus (d .clock) (ticks lead) }
+
+-- the request as lines 13 and 1 to 5 leave it
+abbrev pub requestBy : Verdict → Job → Request
+requestBy Yes j = request.Job j
+requestBy (No x) j = request.No x
+
+unfoldable pub requestOf : Desk → ℕ → ℕ → ℕ → Request
+requestOf d number work lead =
+    requestBy (firstOf (disorder d ∷ askLines d number (ticks work) (ticks lead))) (requested d number work lead)
 
 -- the book with the job that is asked for
 abbrev pub with-job : Desk → Job → Book

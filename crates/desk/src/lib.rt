@@ -29,7 +29,7 @@ ghost use Rattle.refusals.specs.Refusals.{firstOf};
 ghost use Rattle.desk.specs.Answers.{verdictOf, ranOf};
 ghost use Rattle.desk.specs.Opening.{openedOf};
 ghost use Rattle.desk.specs.Calls.{stepOf, endOf, restOf, countedOf, listedOf, runnerOf};
-ghost use Rattle.desk.specs.Asking.{askLines, fullLine, Admissible, Judged, Asked};
+ghost use Rattle.desk.specs.Asking.{askLines, fullLine, requestOf, Admissible, Judged, Asked};
 ghost use Rattle.desk.specs.Meshes.{refusedOf, AskedMesh};
 
 // The state of a box: what the clock reads, the feeds with their current pieces, and the live jobs.
@@ -58,6 +58,12 @@ pub enum Ran {
 pub struct Stepped {
     pub desk: Desk,
     pub ran: Ran,
+}
+
+// A request as the lines leave it: the refusal, or the job that is asked for.
+enum Request {
+    No(Refusal),
+    Job(Job),
 }
 
 // How many jobs the list call wrote, or why it wrote none.
@@ -304,24 +310,31 @@ impl Desk {
         }
     }
 
-    // Asking for a job.
-    pub fn ask(self, number: u32, work: u32, lead: u32) -> Answer
-        ensures { λ r. ⌜ Asked self number work lead r ⌝ }
+    // What is asked for, unless one of lines 13 and 1 to 5 stops it.
+    fn request(self, number: u32, work: u32, lead: u32) -> Request
+        ensures { λ r. ⌜ r ≡ requestOf self number work lead ⌝ }
     {
         if !self.in_order() {
-            return Answer {
-                desk: self,
-                verdict: Verdict::No(Refusal::NotInOrder),
-            };
+            return Request::No(Refusal::NotInOrder);
         }
         let owed = Length::of(work);
         let ahead = Length::of(lead);
         match self.ask_stops(number, owed, ahead) {
-            Verdict::No(refusal) => Answer {
+            Verdict::No(refusal) => Request::No(refusal),
+            Verdict::Yes => Request::Job(Job::of(number, owed, self.clock.plus(ahead))),
+        }
+    }
+
+    // Asking for a job.
+    pub fn ask(self, number: u32, work: u32, lead: u32) -> Answer
+        ensures { λ r. ⌜ Asked self number work lead r ⌝ }
+    {
+        match self.request(number, work, lead) {
+            Request::No(refusal) => Answer {
                 desk: self,
                 verdict: Verdict::No(refusal),
             },
-            Verdict::Yes => self.admit(Job::of(number, owed, self.clock.plus(ahead))),
+            Request::Job(job) => self.admit(job),
         }
     }
 
