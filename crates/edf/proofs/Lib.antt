@@ -15,6 +15,7 @@ pub mod Kept
 pub mod Rounds
 pub mod Opening
 pub mod Horizon
+pub mod Signed
 pub mod Margin
 pub mod Promises
 pub mod Examples

@@ -5,14 +5,36 @@ use Prim.Native.Nat.{ℕ, zero, suc, _+_, _-_, _*_, _≤_, _<_}
 use native.Mathlib.Nat.{le-mul-of-pos-right}
 use native.Mathlib.Decide.{decLt}
 use native.Mathlib.Omega.{arith}
+use lib.IntN.{pos}
+use lib.Signed.{_≤ℤ_, _<ℤ_}
 use Rattle.edf.specs.Book.{Book}
 use Rattle.edf.specs.Fits.{Fits}
 use Rattle.edf.specs.Owed.{owedBy, Room}
 use Rattle.edf.specs.Order.{InOrder}
 use Rattle.edf.specs.Load.{Light, Round, Beyond, horizon}
-use Rattle.edf.specs.Margin.{Overbooked, FirstOverbooked, Tightest, Telling}
+use Rattle.edf.specs.Margin.{margin, Overbooked, NoLarger, Smaller, FirstOverbooked, Tightest, Telling}
 use Rattle.edf.proofs.Equality.{fits-iff-room}
 use Rattle.edf.proofs.Horizon.{owedBy-round}
+use Rattle.edf.proofs.Signed.{difference-le, difference-lt}
+
+-- THE SIGNED MARGIN AND ITS TELLING WITHOUT TAKING AWAY ARE ONE
+pub overbooked-below-zero : (b : Book) (D : ℕ) → b .clock < D → Overbooked b D ↔ (margin b D <ℤ pos 0)
+unfolding margin
+overbooked-below-zero b D h =
+    let less = difference-lt (D - b .clock) (owedBy b D) 0 0 in
+    (λ s. less .0 (omega arith), λ n. omega (arith, less .1 n))
+
+pub no-larger-is : (b : Book) (D E : ℕ) → b .clock < D → b .clock < E → NoLarger b D E ↔ (margin b D ≤ℤ margin b E)
+unfolding margin
+no-larger-is b D E h k =
+    let less = difference-le (D - b .clock) (owedBy b D) (E - b .clock) (owedBy b E) in
+    (λ s. less .0 (omega arith), λ n. omega (arith, less .1 n))
+
+pub smaller-is : (b : Book) (D E : ℕ) → b .clock < D → b .clock < E → Smaller b D E ↔ (margin b D <ℤ margin b E)
+unfolding margin
+smaller-is b D E h k =
+    let less = difference-lt (D - b .clock) (owedBy b D) (E - b .clock) (owedBy b E) in
+    (λ s. less .0 (omega arith), λ n. omega (arith, less .1 n))
 
 -- THE HORIZON FOR MARGINS: a margin that is reached by every instant up to a round past the last deadline and release is
 -- reached by all

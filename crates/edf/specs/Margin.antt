@@ -1,9 +1,15 @@
--- The margin by an instant: the time until then less what is owed by then. It may lie below zero, so margins are compared
--- without taking anything away.
+-- The margin by an instant, the instant that a customer is told of, and which it is.
 use mathlib.Core.Logic.{_⊎_}
-use Prim.Native.Nat.{ℕ, _+_, _≤_, _<_}
+use Prim.Native.Nat.{ℕ, _+_, _-_, _≤_, _<_}
+use lib.IntN.{ℤ, pos, _-ℤ_}
 use Rattle.edf.specs.Book.{Book}
 use Rattle.edf.specs.Owed.{owedBy, Room}
+
+-- the time until D less what is owed by D, below zero too
+unfoldable pub margin : Book → ℕ → ℤ
+margin b D = pos (D - b .clock) -ℤ pos (owedBy b D)
+
+-- The same told without taking anything away.
 
 -- more is owed by D than there is time until then
 abbrev pub Overbooked : Book → ℕ → Type 0
