@@ -6,7 +6,7 @@ use Prim.Native.Nat.{ℕ, zero, suc, _+_, _-_, _≤_, _<_}
 use native.Mathlib.Omega.{arith}
 use lib.Dec.{le→leb, lt→ltb, leb→le, ltb→lt}
 use lib.IntN.{ℤ, pos, negsuc, subℕ, _-ℤ_}
-use lib.Signed.{_≤ℤ_, _<ℤ_}
+use lib.Signed.{mag, _≤ℤ_, _<ℤ_}
 use Rattle.lists.proofs.Tests.{ltb-elim}
 
 difference : (m n : ℕ) → subℕ m n ≡ pos m -ℤ pos n
@@ -42,3 +42,9 @@ difference-lt a b c d =
     (λ p. ltb-elim (λ t. (a + d < c + b) ↔ (pos (a - b) <ℤ cond t (negsuc (d - suc c)) (pos (c - d)))) c d
     (λ q. (λ h. absurd (omega arith), λ h. absurd (h .lt)))
     (λ q. (λ h. record { lt = lt→ltb (a - b) (c - d) (omega arith) }, λ h. omega (arith, ltb→lt (a - b) (c - d) (h .lt))))))
+
+-- a difference of two numbers below a bound is as far from zero at most
+pub difference-below : (a b k : ℕ) → a < k → b < k → mag (pos a -ℤ pos b) < k
+difference-below a b k h l =
+    rw (← difference a b)
+    (ltb-elim (λ t. mag (cond t (negsuc (b - suc a)) (pos (a - b))) < k) a b (λ p. omega arith) (λ p. omega arith))

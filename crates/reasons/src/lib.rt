@@ -7,14 +7,14 @@ use jobs::Table;
 use ticks::Instant;
 use ticks::Length;
 ghost use mathlib.Core.Path.{_≡_};
-ghost use Prim.Native.Nat.{_+_, _<_, _^_};
+ghost use Prim.Native.Nat.{_+_, _≤_, _<_, _^_};
 ghost use lib.IntN.{pos, _-ℤ_};
 ghost use Rattle.feeds.specs.Feeds.{live as liveFeeds};
 ghost use Rattle.jobs.specs.Jobs.{live as liveJobs};
 ghost use Rattle.edf.specs.Margin.{Telling};
 ghost use Rattle.ledger.specs.Reading.{bookOf};
-ghost use Rattle.room.specs.Owed.{Ordered, Reach};
-ghost use Rattle.reasons.specs.Reasons.{debtBy, tighter};
+ghost use Rattle.room.specs.Owed.{Ordered, Modest, Reach};
+ghost use Rattle.reasons.specs.Reasons.{debtBy, tighter, reasonAt};
 
 // An instant, and what is owed by then.
 pub struct Debt {
@@ -61,4 +61,38 @@ pub fn tightest(clock: Instant, feeds: Feeds, table: Table) -> Instant
         by = room::next_due(clock, feeds, table, by, end);
     }
     best.at
+}
+
+// The time until an instant less what is owed by then, below zero too.
+pub fn margin(time: Length, owed: Length) -> i64
+    requires { ⌜ (time .0 < 2 ^ 63) × (owed .0 < 2 ^ 63) ⌝ }
+    ensures { λ r. ⌜ r ≡ pos (time .0) -ℤ pos (owed .0) ⌝ }
+{
+    (time.0 as i64) - (owed.0 as i64)
+}
+
+// What a customer is told of an instant: how much the live jobs, the feeds and the job that is asked for owe by then, and
+// the margin there.
+pub struct Reason {
+    pub at: Instant,
+    pub jobs: Length,
+    pub feeds: Length,
+    pub job: Length,
+    pub margin: i64,
+}
+
+pub fn reason_at(clock: Instant, feeds: Feeds, table: Table, job: Job, at: Instant) -> Reason
+    requires { ⌜ Ordered clock feeds table × Modest job × Reach clock at × (clock .0 ≤ at .0) ⌝ }
+    ensures { λ r. ⌜ r ≡ reasonAt clock (liveFeeds feeds) (liveJobs table) job at ⌝ }
+{
+    let jobs = room::jobs_owe(table, at);
+    let printers = room::feeds_owe(feeds, clock, at);
+    let asked = room::job_owes(job, at);
+    Reason {
+        at,
+        jobs: Length(jobs),
+        feeds: Length(printers),
+        job: Length(asked),
+        margin: margin(at.less(clock), Length(jobs + printers + asked)),
+    }
 }

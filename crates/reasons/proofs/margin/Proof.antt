@@ -1,0 +1,33 @@
+-- `reasons::margin` meets its contract: each number reads as itself with a sign, and so does their difference.
+-- Assumes nothing.
+use mathlib.Core.Path.{_≡_, _∙_}
+use Prim.Native.Nat.{_^_}
+use lib.IntN.{pos, _-ℤ_}
+use mir.Syntax.{w64}
+use mir.Val.{toZ}
+use mir.ValLaws.{toZ-pos, toZ-ofZ}
+use borrow.Author.Needs.{needs}
+use Rattle.edf.proofs.Signed.{difference-below}
+use Rattle.reasons.proofs.margin.Statement.{statement}
+use Rattle.reasons.proofs.margin.Tie as tie
+
+cast-result : tie.Need-cast-result
+cast-result c = search needs
+
+cast-result-2 : tie.Need-cast-result-2
+cast-result-2 c = search needs
+
+-- what is taken away, and what from
+signed : (c : tie.Start) → toZ w64 (c .args .time .0) -ℤ toZ w64 (c .args .owed .0) ≡ pos (c .args .time .0) -ℤ pos (c .args .owed .0)
+signed c = λ i. toZ-pos w64 (c .args .time .0) (c .pre .0) i -ℤ toZ-pos w64 (c .args .owed .0) (c .pre .1) i
+
+sub-result : tie.Need-sub-result
+sub-result c =
+    let start = c .before .before in
+    rw (signed start) (record { sfits = difference-below (start .args .time .0) (start .args .owed .0) (2 ^ 63) (start .pre .0) (start .pre .1) })
+
+returns : tie.Need-returns
+returns c = toZ-ofZ w64 _ (sub-result c) ∙ signed (c .before .before)
+
+pub margin-spec : {M : Type 1} → statement M
+margin-spec = tie.close (tie.spec cast-result cast-result-2 sub-result returns)
