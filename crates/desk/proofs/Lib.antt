@@ -4,6 +4,7 @@ pub mod Opening
 pub mod Calls
 pub mod Asking
 pub mod Meshes
+pub mod Whys
 pub mod Reachable
 pub mod Shadow
 pub mod Splits

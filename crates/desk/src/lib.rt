@@ -8,6 +8,7 @@ use jobs::Table;
 use listing::Part;
 use listing::Runner;
 use mesh::Mesh;
+use reasons::Reason;
 use refusals::Refusal;
 use refusals::Verdict;
 use serving::Named;
@@ -31,6 +32,7 @@ ghost use Rattle.desk.specs.Opening.{openedOf};
 ghost use Rattle.desk.specs.Calls.{stepOf, endOf, restOf, countedOf, listedOf, runnerOf};
 ghost use Rattle.desk.specs.Asking.{askLines, fullLine, requestOf, Admissible, Judged, Asked};
 ghost use Rattle.desk.specs.Meshes.{refusedOf, AskedMesh};
+ghost use Rattle.desk.specs.Whys.{Told, Explained};
 
 // The state of a box: what the clock reads, the feeds with their current pieces, and the live jobs.
 #[repr(C)]
@@ -64,6 +66,16 @@ pub struct Stepped {
 enum Request {
     No(Refusal),
     Job(Job),
+}
+
+// What the customer is told of a request.
+pub enum Why {
+    // The refusal that an ask would give.
+    No(Refusal),
+    // It does not fit: the earliest instant at which more is owed than there is time, and who owes it.
+    Short(Reason),
+    // It would be taken: the earliest instant that has the smallest margin, and that margin.
+    Room(Instant, i64),
 }
 
 // How many jobs the list call wrote, or why it wrote none.
@@ -335,6 +347,31 @@ impl Desk {
                 verdict: Verdict::No(refusal),
             },
             Request::Job(job) => self.admit(job),
+        }
+    }
+
+    // Line 6, told by the instant that decides it.
+    fn explain(self, job: Job) -> Why
+        requires { ⌜ Admissible self job ⌝ }
+        ensures { λ r. ⌜ Told self job r ⌝ }
+    {
+        let all = self.table.taken(job);
+        let debt = reasons::tightest(self.clock, self.feeds, all);
+        let at = debt.at;
+        let reason = reasons::reason_at(self.clock, self.feeds, self.table, job, at);
+        if at.less(self.clock).0 < debt.owed.0 {
+            return Why::Short(reason);
+        }
+        Why::Room(at, reason.margin)
+    }
+
+    // Telling the customer why: what an ask would answer, and what decides it. It changes nothing.
+    pub fn why(self, number: u32, work: u32, lead: u32) -> Why
+        ensures { λ r. ⌜ Explained self number work lead r ⌝ }
+    {
+        match self.request(number, work, lead) {
+            Request::No(refusal) => Why::No(refusal),
+            Request::Job(job) => self.explain(job),
         }
     }
 

@@ -13,8 +13,10 @@ use Rattle.refusals.specs.Refusals.{firstOf}
 use Rattle.desk.specs.Calls.{listLines, countIf, countedOf}
 use Rattle.desk.proofs.Asking.{asked-once}
 use Rattle.desk.proofs.Meshes.{asked-mesh-once}
+use Rattle.desk.proofs.Whys.{explained-once}
 use Rattle.desk_c.specs.declared.Answer.{Answer}
-use Rattle.desk_c.specs.Flat.{flatAnswer, AskedFlat, AskedMeshFlat}
+use Rattle.desk_c.specs.declared.Reason.{Reason}
+use Rattle.desk_c.specs.Flat.{flatAnswer, flatWhy, AskedFlat, AskedMeshFlat, WhyFlat}
 
 counted-all : (v : Verdict) (m n : ℕ) → countIf v m ≡ Jobs n → m ≡ n
 counted-all Yes m n e = cc
@@ -38,3 +40,8 @@ pub asked-mesh-flat-once : (d : Desk) (s : List ℕ) (size number lead : ℕ) (q
     → q ≡ r
 asked-mesh-flat-once d s size number lead q r a b =
     a .flat ∙ ap flatAnswer (asked-mesh-once d s size number lead (a .answer) (b .answer) (a .asked) (b .asked)) ∙ sym (b .flat)
+
+-- and of what is told
+pub why-flat-once : (d : Desk) (number work lead : ℕ) (q r : Reason) → WhyFlat d number work lead q → WhyFlat d number work lead r → q ≡ r
+why-flat-once d number work lead q r a b =
+    a .flat ∙ ap flatWhy (explained-once d number work lead (a .why) (b .why) (a .explained) (b .explained)) ∙ sym (b .flat)

@@ -3,13 +3,15 @@
 use desk::Counted;
 use desk::Desk;
 use desk::Ran;
+use desk::Why;
+use refusals::Refusal;
 ghost use mathlib.Core.Path.{_≡_};
 ghost use lib.ListN.{length};
 ghost use Rattle.listing.specs.Labels.{labelOf};
 ghost use Rattle.refusals.specs.Refusals.{numberOf, answerOf};
 ghost use Rattle.desk.specs.Opening.{openedOf};
 ghost use Rattle.desk.specs.Calls.{stepOf, endOf, restOf, countedOf, listedOf, runnerOf};
-ghost use Rattle.desk_c.specs.Flat.{flatAnswer, flatStep, flatCount, flatPart, AskedFlat, AskedMeshFlat};
+ghost use Rattle.desk_c.specs.Flat.{flatAnswer, flatStep, flatCount, flatPart, flatWhy, AskedFlat, AskedMeshFlat, WhyFlat};
 
 // The state that a call hands back, and 0 for yes or the refusal's number.
 #[repr(C)]
@@ -27,6 +29,19 @@ pub struct Stepped {
     pub kind: u32,
     pub number: u32,
     pub owes: u64,
+}
+
+// The refusal that an ask would give, 0 for yes. For 6 the earliest instant at which more is owed than there is time, what the
+// live jobs, the feeds and the new job owe by then, and the margin, below zero; for 0 the earliest instant that has the
+// smallest margin, and that margin. All other values 0.
+#[repr(C)]
+pub struct Reason {
+    pub refusal: u32,
+    pub at: u64,
+    pub jobs: u64,
+    pub feeds: u64,
+    pub job: u64,
+    pub margin: i64,
 }
 
 // How many jobs the list call wrote, 0 where it is refused.
@@ -92,6 +107,37 @@ fn flat_step(stepped: desk::Stepped) -> Stepped
     }
 }
 
+fn flat_why(why: Why) -> Reason
+    ensures { λ r. ⌜ r ≡ flatWhy why ⌝ }
+{
+    match why {
+        Why::No(refusal) => Reason {
+            refusal: refusal.number(),
+            at: 0,
+            jobs: 0,
+            feeds: 0,
+            job: 0,
+            margin: 0,
+        },
+        Why::Short(reason) => Reason {
+            refusal: Refusal::DoesNotFit.number(),
+            at: reason.at.0,
+            jobs: reason.jobs.0,
+            feeds: reason.feeds.0,
+            job: reason.job.0,
+            margin: reason.margin,
+        },
+        Why::Room(at, margin) => Reason {
+            refusal: 0,
+            at: at.0,
+            jobs: 0,
+            feeds: 0,
+            job: 0,
+            margin,
+        },
+    }
+}
+
 // Opening with a list of feeds, three numbers a feed, at an instant.
 #[no_mangle]
 pub extern "C" fn desk_open(list: &[u32], start: u64) -> Answer
@@ -120,6 +166,14 @@ pub extern "C" fn desk_ask_mesh(
     ensures { λ r. ⌜ AskedMeshFlat desk (now (head .entry)) size number lead r ⌝ }
 {
     flat_answer(desk.ask_mesh(head, size, number, lead))
+}
+
+// Telling the customer why: what an ask would answer, and what decides it.
+#[no_mangle]
+pub extern "C" fn desk_why(desk: Desk, number: u32, work: u32, lead: u32) -> Reason
+    ensures { λ r. ⌜ WhyFlat desk number work lead r ⌝ }
+{
+    flat_why(desk.why(number, work, lead))
 }
 
 // One step of one tick.

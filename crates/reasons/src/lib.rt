@@ -11,10 +11,9 @@ ghost use Prim.Native.Nat.{_+_, _≤_, _<_, _^_};
 ghost use lib.IntN.{pos, _-ℤ_};
 ghost use Rattle.feeds.specs.Feeds.{live as liveFeeds};
 ghost use Rattle.jobs.specs.Jobs.{live as liveJobs};
-ghost use Rattle.edf.specs.Margin.{Telling};
 ghost use Rattle.ledger.specs.Reading.{bookOf};
 ghost use Rattle.room.specs.Owed.{Ordered, Modest, Reach};
-ghost use Rattle.reasons.specs.Reasons.{debtBy, tighter, reasonAt};
+ghost use Rattle.reasons.specs.Reasons.{debtBy, tighter, Tells, reasonAt};
 
 // An instant, and what is owed by then.
 pub struct Debt {
@@ -45,9 +44,9 @@ fn tighter(best: Debt, next: Debt) -> Debt
 
 // The walk: up from the instant after the clock over those at which something is due, as far as the horizon and no
 // further than the first that is overbooked. In between nothing more is owed while the margin grows.
-pub fn tightest(clock: Instant, feeds: Feeds, table: Table) -> Instant
+pub fn tightest(clock: Instant, feeds: Feeds, table: Table) -> Debt
     requires { ⌜ Ordered clock feeds table ⌝ }
-    ensures { λ r. ⌜ Telling (bookOf clock (liveFeeds feeds) (liveJobs table)) (r .0) × Reach clock r ⌝ }
+    ensures { λ r. ⌜ Tells clock (bookOf clock (liveFeeds feeds) (liveJobs table)) r ⌝ }
 {
     let end = room::horizon(clock, feeds, table).plus(Length(1));
     let mut by = clock.plus(Length(1));
@@ -55,12 +54,12 @@ pub fn tightest(clock: Instant, feeds: Feeds, table: Table) -> Instant
     while by.0 < end.0 {
         let next = debt_by(clock, feeds, table, by);
         if by.less(clock).0 < next.owed.0 {
-            return by;
+            return next;
         }
         best = tighter(best, next);
         by = room::next_due(clock, feeds, table, by, end);
     }
-    best.at
+    best
 }
 
 // The time until an instant less what is owed by then, below zero too.

@@ -1,6 +1,6 @@
 -- `reasons::tightest` meets its contract: before the instant that is reached there is room, and the best so far is the
 -- earliest of the smallest margin. Assumes nothing.
-use mathlib.Core.Path.{_≡_, ap}
+use mathlib.Core.Path.{_≡_, refl, ap}
 use mathlib.Core.Logic.{inl, inr}
 use Prim.Native.Nat.{ℕ, _+_, _-_, _≤_, _<_}
 use native.Mathlib.Omega.{arith}
@@ -95,7 +95,12 @@ returns c =
     let loop = c .before .before .before .before .before .before .before .before .loop in
     let short : Overbooked (book start) (loop .by .0)
     = omega (arith, ap (λ l. l .0) (c .before .before .before .less .ensures), owed (c .before .before .before .before), c .if2 .taken) in
-    (inl (walked-stops (book start) (loop .best) (loop .by .0) (loop .inv .2) short), reach (c .before .before .before .before .before))
+    rw (c .before .before .before .before .debt-by2 .ensures)
+    (record {
+      telling = inl (walked-stops (book start) (loop .best) (loop .by .0) (loop .inv .2) short);
+      reach = reach (c .before .before .before .before .before);
+      owed = refl;
+    })
 
 -- there is time for it
 enough : (c : tie.Else2 Inv-loop μ-loop) → InTime (book (c .before .before .before .before .before .before .before .before .before .before .before .before .before)) (c .before .before .before .before .before .before .before .before .loop .by .0)
@@ -141,14 +146,17 @@ loop-again c =
 
 returns-2 : tie.Need-returns-2 Inv-loop μ-loop
 returns-2 c =
-    let start = c .before .before .before .before .before .before .before .before .before in
-    let loop = c .before .before .before .before .loop in
-    let past = end (c .before .before .before .before .before .before .before) in (
-      inr (walked-done (start .args .clock) (liveFeeds (start .args .feeds)) (liveJobs (start .args .table)) (loop .best) (loop .by .0) (start .pre .order)
-          (omega (arith, past, c .before .if1 .left))
-          (loop .inv .2)),
-      record { inside = start .pre .order .clock; near = omega (arith, past, loop .inv .0, near start .1) },
-    )
+    let start = c .before .before .before .before .before .before .before .before in
+    let loop = c .before .before .before .loop in
+    let past = end (c .before .before .before .before .before .before) in
+    record {
+      telling = inr
+          (walked-done (start .args .clock) (liveFeeds (start .args .feeds)) (liveJobs (start .args .table)) (loop .best) (loop .by .0) (start .pre .order)
+          (omega (arith, past, c .if1 .left))
+          (loop .inv .2));
+      reach = record { inside = start .pre .order .clock; near = omega (arith, past, loop .inv .0, near start .1) };
+      owed = loop .inv .2 .owed;
+    }
 
 pub tightest-spec : {M : Type 1} → statement M
 tightest-spec =
