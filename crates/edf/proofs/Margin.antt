@@ -1,12 +1,14 @@
 -- How far one has to look for the smallest margin, and that a customer can be told of one instant only.
-use mathlib.Core.Path.{_≡_}
+use mathlib.Core.Path.{_≡_, sym, subst}
 use mathlib.Core.Logic.{_⊎_, inl, inr, _↔_}
+use mathlib.Core.Bool.{true, false}
 use Prim.Native.Nat.{ℕ, zero, suc, _+_, _-_, _*_, _≤_, _<_}
 use native.Mathlib.Nat.{le-mul-of-pos-right}
 use native.Mathlib.Decide.{decLt}
 use native.Mathlib.Omega.{arith}
+use lib.Dec.{T}
 use lib.IntN.{pos}
-use lib.Signed.{_≤ℤ_, _<ℤ_}
+use lib.Signed.{ltZ, _≤ℤ_, _<ℤ_, ltZ-yes}
 use Rattle.edf.specs.Book.{Book}
 use Rattle.edf.specs.Fits.{Fits}
 use Rattle.edf.specs.Owed.{owedBy, Room}
@@ -86,6 +88,16 @@ told-once b D E (inl p) (inl q) = overbooked-once b D E p q
 told-once b D E (inl p) (inr q) = absurd (not-both b D E p q)
 told-once b D E (inr p) (inl q) = absurd (not-both b E D q p)
 told-once b D E (inr p) (inr q) = tightest-once b D E p q
+
+-- THE SIGN OF THE MARGIN TELLS WHICH OF THE TWO IT IS
+pub below-zero-is-overbooked : (b : Book) (D : ℕ) → Telling b D → ltZ (margin b D) (pos 0) ≡ true → FirstOverbooked b D
+below-zero-is-overbooked b D (inl p) e = p
+below-zero-is-overbooked b D (inr p) e =
+    absurd (overbooked-no-room b D (p .after) (overbooked-below-zero b D (p .after) .1 (ltZ-yes (subst T (sym e) tt))) (p .room))
+
+pub not-below-zero-is-tightest : (b : Book) (D : ℕ) → Telling b D → ltZ (margin b D) (pos 0) ≡ false → Tightest b D
+not-below-zero-is-tightest b D (inl p) e = absurd (subst T e (overbooked-below-zero b D (p .after) .0 (p .short) .lt))
+not-below-zero-is-tightest b D (inr p) e = p
 
 -- WHERE THE INSTANT IS OVERBOOKED THE BOOK DOES NOT FIT, WHERE IT IS THE TIGHTEST IT DOES
 pub overbooked-does-not-fit : (b : Book) (D : ℕ) → InOrder b → Light (b .feeds) → FirstOverbooked b D → Fits b → ⊥

@@ -9,6 +9,7 @@ use ticks::Length;
 ghost use mathlib.Core.Path.{_≡_};
 ghost use Prim.Native.Nat.{_+_, _≤_, _<_, _^_};
 ghost use lib.IntN.{pos, _-ℤ_};
+ghost use lib.Signed.{ltZ};
 ghost use Rattle.feeds.specs.Feeds.{live as liveFeeds};
 ghost use Rattle.jobs.specs.Jobs.{live as liveJobs};
 ghost use Rattle.ledger.specs.Reading.{bookOf};
@@ -78,6 +79,15 @@ pub struct Reason {
     pub feeds: Length,
     pub job: Length,
     pub margin: i64,
+}
+
+impl Reason {
+    // More is owed than there is time.
+    pub fn is_short(self) -> bool
+        ensures { λ r. ⌜ r ≡ ltZ (self .margin) (pos 0) ⌝ }
+    {
+        self.margin < 0
+    }
 }
 
 pub fn reason_at(clock: Instant, feeds: Feeds, table: Table, job: Job, at: Instant) -> Reason
