@@ -17,9 +17,9 @@ ghost use Rattle.room.specs.Owed.{Ordered, Modest, Reach};
 ghost use Rattle.reasons.specs.Reasons.{debtBy, tighter, Tells, reasonAt};
 
 // An instant, and what is owed by then.
-pub struct Debt {
-    pub at: Instant,
-    pub owed: Length,
+struct Debt {
+    at: Instant,
+    owed: Length,
 }
 
 fn debt_by(clock: Instant, feeds: Feeds, table: Table, by: Instant) -> Debt
