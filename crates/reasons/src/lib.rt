@@ -9,7 +9,6 @@ use ticks::Length;
 ghost use mathlib.Core.Path.{_≡_};
 ghost use Prim.Native.Nat.{_+_, _≤_, _<_, _^_};
 ghost use lib.IntN.{pos, _-ℤ_};
-ghost use lib.Signed.{ltZ};
 ghost use Rattle.feeds.specs.Feeds.{live as liveFeeds};
 ghost use Rattle.jobs.specs.Jobs.{live as liveJobs};
 ghost use Rattle.ledger.specs.Reading.{bookOf};
@@ -17,9 +16,9 @@ ghost use Rattle.room.specs.Owed.{Ordered, Modest, Reach};
 ghost use Rattle.reasons.specs.Reasons.{debtBy, tighter, Tells, reasonAt};
 
 // An instant, and what is owed by then.
-struct Debt {
-    at: Instant,
-    owed: Length,
+pub struct Debt {
+    pub at: Instant,
+    pub owed: Length,
 }
 
 fn debt_by(clock: Instant, feeds: Feeds, table: Table, by: Instant) -> Debt
@@ -79,15 +78,6 @@ pub struct Reason {
     pub feeds: Length,
     pub job: Length,
     pub margin: i64,
-}
-
-impl Reason {
-    // More is owed than there is time.
-    pub fn is_short(self) -> bool
-        ensures { λ r. ⌜ r ≡ ltZ (self .margin) (pos 0) ⌝ }
-    {
-        self.margin < 0
-    }
 }
 
 pub fn reason_at(clock: Instant, feeds: Feeds, table: Table, job: Job, at: Instant) -> Reason
