@@ -3,12 +3,9 @@ pub mod Answers
 pub mod Opening
 pub mod Calls
 pub mod Asking
-pub mod Meshes
-pub mod Whys
 pub mod Reachable
 pub mod Shadow
 pub mod Splits
 pub mod Promises
-pub mod MeshPromises
 pub mod Reports
 pub mod Examples

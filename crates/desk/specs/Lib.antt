@@ -3,8 +3,6 @@ pub mod Answers
 pub mod Opening
 pub mod Calls
 pub mod Asking
-pub mod Meshes
-pub mod Whys
 pub mod Runs
 pub mod Kept
 pub mod Examples

@@ -7,8 +7,6 @@ use jobs::Job;
 use jobs::Table;
 use listing::Part;
 use listing::Runner;
-use mesh::Mesh;
-use reasons::Reason;
 use refusals::Refusal;
 use refusals::Verdict;
 use serving::Named;
@@ -31,8 +29,6 @@ ghost use Rattle.desk.specs.Answers.{verdictOf, ranOf};
 ghost use Rattle.desk.specs.Opening.{openedOf};
 ghost use Rattle.desk.specs.Calls.{stepOf, endOf, restOf, countedOf, listedOf, runnerOf};
 ghost use Rattle.desk.specs.Asking.{askLines, fullLine, requestOf, Admissible, Judged, Asked};
-ghost use Rattle.desk.specs.Meshes.{refusedOf, AskedMesh};
-ghost use Rattle.desk.specs.Whys.{Told, Explained};
 
 // The state of a box: what the clock reads, the feeds with their current pieces, and the live jobs.
 #[repr(C)]
@@ -63,19 +59,9 @@ pub struct Stepped {
 }
 
 // A request as the lines leave it: the refusal, or the job that is asked for.
-enum Request {
+pub enum Request {
     No(Refusal),
     Job(Job),
-}
-
-// What the customer is told of a request.
-pub enum Why {
-    // The refusal that an ask would give.
-    No(Refusal),
-    // It does not fit: the earliest instant at which more is owed than there is time, and who owes it.
-    Short(Reason),
-    // It would be taken: the earliest instant that has the smallest margin, and that margin.
-    Room(Instant, i64),
 }
 
 // How many jobs the list call wrote, or why it wrote none.
@@ -323,7 +309,7 @@ impl Desk {
     }
 
     // What is asked for, unless one of lines 13 and 1 to 5 stops it.
-    fn request(self, number: u32, work: u32, lead: u32) -> Request
+    pub fn request(self, number: u32, work: u32, lead: u32) -> Request
         ensures { λ r. ⌜ r ≡ requestOf self number work lead ⌝ }
     {
         if !self.in_order() {
@@ -347,59 +333,6 @@ impl Desk {
                 verdict: Verdict::No(refusal),
             },
             Request::Job(job) => self.admit(job),
-        }
-    }
-
-    // Line 6, told by the instant that decides it.
-    fn explain(self, job: Job) -> Why
-        requires { ⌜ Admissible self job ⌝ }
-        ensures { λ r. ⌜ Told self job r ⌝ }
-    {
-        let all = self.table.taken(job);
-        let debt = reasons::tightest(self.clock, self.feeds, all);
-        let at = debt.at;
-        let reason = reasons::reason_at(self.clock, self.feeds, self.table, job, at);
-        if at.less(self.clock).0 < debt.owed.0 {
-            return Why::Short(reason);
-        }
-        Why::Room(at, reason.margin)
-    }
-
-    // Telling the customer why: what an ask would answer, and what decides it. It changes nothing.
-    pub fn why(self, number: u32, work: u32, lead: u32) -> Why
-        ensures { λ r. ⌜ Explained self number work lead r ⌝ }
-    {
-        match self.request(number, work, lead) {
-            Request::No(refusal) => Why::No(refusal),
-            Request::Job(job) => self.explain(job),
-        }
-    }
-
-    // A request that has its own refusal, unless the state is not in order.
-    fn refused(self, refusal: Refusal) -> Answer
-        ensures { λ r. ⌜ r ≡ refusedOf self refusal ⌝ }
-    {
-        if !self.in_order() {
-            return Answer {
-                desk: self,
-                verdict: Verdict::No(Refusal::NotInOrder),
-            };
-        }
-        Answer {
-            desk: self,
-            verdict: Verdict::No(refusal),
-        }
-    }
-
-    // Asking with the mesh file itself: the front of the file and its length tell the work.
-    pub fn ask_mesh(self, head: &[u8], size: u64, number: u32, lead: u32) -> Answer
-        ensures { λ r. ⌜ AskedMesh self (now (head .entry)) size number lead r ⌝ }
-    {
-        match mesh::read(head, size) {
-            Mesh::Short => self.refused(Refusal::ShortFront),
-            Mesh::Disagrees => self.refused(Refusal::LengthOff),
-            Mesh::Empty => self.refused(Refusal::NoTriangles),
-            Mesh::Work(work) => self.ask(number, work, lead),
         }
     }
 

@@ -12,8 +12,8 @@ use Rattle.desk.specs.declared.Counted.the-variants.{Jobs}
 use Rattle.refusals.specs.Refusals.{firstOf}
 use Rattle.desk.specs.Calls.{listLines, countIf, countedOf}
 use Rattle.desk.proofs.Asking.{asked-once}
-use Rattle.desk.proofs.Meshes.{asked-mesh-once}
-use Rattle.desk.proofs.Whys.{explained-once}
+use Rattle.counter.proofs.Meshes.{asked-mesh-once}
+use Rattle.counter.proofs.Whys.{explained-once}
 use Rattle.desk_c.specs.declared.Answer.{Answer}
 use Rattle.desk_c.specs.declared.Reason.{Reason}
 use Rattle.desk_c.specs.Flat.{flatAnswer, flatWhy, AskedFlat, AskedMeshFlat, WhyFlat}

@@ -9,14 +9,14 @@ use Rattle.desk.specs.declared.Answer as answer
 use Rattle.desk.specs.declared.Stepped as stepped
 use Rattle.desk.specs.declared.Ran.{Ran}
 use Rattle.desk.specs.declared.Ran.the-variants as ran
-use Rattle.desk.specs.declared.Why.{Why}
-use Rattle.desk.specs.declared.Why.the-variants as why
+use Rattle.counter.specs.declared.Because.{Because}
+use Rattle.counter.specs.declared.Because.the-variants as because
 use Rattle.desk.specs.declared.Counted.{Counted}
 use Rattle.desk.specs.declared.Counted.the-variants as counted
 use Rattle.refusals.specs.Refusals.{numberOf, answerOf}
 use Rattle.desk.specs.Asking.{Asked}
-use Rattle.desk.specs.Meshes.{AskedMesh}
-use Rattle.desk.specs.Whys.{Explained}
+use Rattle.counter.specs.Meshes.{AskedMesh}
+use Rattle.counter.specs.Whys.{Explained}
 use Rattle.desk_c.specs.declared.Answer.{Answer}
 use Rattle.desk_c.specs.declared.Stepped.{Stepped}
 use Rattle.desk_c.specs.declared.Reason.{Reason}
@@ -60,14 +60,14 @@ pub record AskedMeshFlat (d : Desk) (s : List ℕ) (size number lead : ℕ) (r :
 
 -- what is told of a request: the refusal alone, 6 with the instant, who owes how much and the margin, or 0 with the instant
 -- and the margin
-abbrev pub flatWhy : Why → Reason
-flatWhy (why.No x) = record { refusal = numberOf x; at = 0; jobs = 0; feeds = 0; job = 0; margin = pos 0 }
-flatWhy (why.Short r) =
+abbrev pub flatWhy : Because → Reason
+flatWhy (because.No x) = record { refusal = numberOf x; at = 0; jobs = 0; feeds = 0; job = 0; margin = pos 0 }
+flatWhy (because.Short r) =
     record { refusal = 6; at = r .at .0; jobs = r .jobs .0; feeds = r .feeds .0; job = r .job .0; margin = r .margin }
-flatWhy (why.Room at margin) = record { refusal = 0; at = at .0; jobs = 0; feeds = 0; job = 0; margin = margin }
+flatWhy (because.Room at margin) = record { refusal = 0; at = at .0; jobs = 0; feeds = 0; job = 0; margin = margin }
 
 -- the flat form of what may be told
 pub record WhyFlat (d : Desk) (number work lead : ℕ) (r : Reason) : Type 0 where
-  pub why : Why
+  pub why : Because
   pub explained : Explained d number work lead why
   pub flat : r ≡ flatWhy why

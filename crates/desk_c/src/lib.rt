@@ -1,9 +1,9 @@
 // Every call of the desk for C and Rust: states and answers by value, each refusal as its number.
 // It must not know how any call is answered.
+use counter::Because;
 use desk::Counted;
 use desk::Desk;
 use desk::Ran;
-use desk::Why;
 use refusals::Refusal;
 ghost use mathlib.Core.Path.{_≡_};
 ghost use lib.ListN.{length};
@@ -107,11 +107,11 @@ fn flat_step(stepped: desk::Stepped) -> Stepped
     }
 }
 
-fn flat_why(why: Why) -> Reason
+fn flat_why(why: Because) -> Reason
     ensures { λ r. ⌜ r ≡ flatWhy why ⌝ }
 {
     match why {
-        Why::No(refusal) => Reason {
+        Because::No(refusal) => Reason {
             refusal: refusal.number(),
             at: 0,
             jobs: 0,
@@ -119,7 +119,7 @@ fn flat_why(why: Why) -> Reason
             job: 0,
             margin: 0,
         },
-        Why::Short(reason) => Reason {
+        Because::Short(reason) => Reason {
             refusal: Refusal::DoesNotFit.number(),
             at: reason.at.0,
             jobs: reason.jobs.0,
@@ -127,7 +127,7 @@ fn flat_why(why: Why) -> Reason
             job: reason.job.0,
             margin: reason.margin,
         },
-        Why::Room(at, margin) => Reason {
+        Because::Room(at, margin) => Reason {
             refusal: 0,
             at: at.0,
             jobs: 0,
@@ -165,7 +165,7 @@ pub extern "C" fn desk_ask_mesh(
 ) -> Answer
     ensures { λ r. ⌜ AskedMeshFlat desk (now (head .entry)) size number lead r ⌝ }
 {
-    flat_answer(desk.ask_mesh(head, size, number, lead))
+    flat_answer(counter::ask_mesh(desk, head, size, number, lead))
 }
 
 // Telling the customer why: what an ask would answer, and what decides it.
@@ -173,7 +173,7 @@ pub extern "C" fn desk_ask_mesh(
 pub extern "C" fn desk_why(desk: Desk, number: u32, work: u32, lead: u32) -> Reason
     ensures { λ r. ⌜ WhyFlat desk number work lead r ⌝ }
 {
-    flat_why(desk.why(number, work, lead))
+    flat_why(counter::why(desk, number, work, lead))
 }
 
 // One step of one tick.

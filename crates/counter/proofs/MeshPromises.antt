@@ -10,16 +10,16 @@ use Rattle.edf.specs.Fits.{Fits}
 use Rattle.refusals.specs.declared.Verdict.{Verdict}
 use Rattle.refusals.specs.declared.Verdict.the-variants.{Yes, No}
 use Rattle.refusals.specs.Refusals.{firstOf}
 use Rattle.desk.specs.declared.Desk.{Desk}
 use Rattle.desk.specs.declared.Answer.{Answer}
 use Rattle.desk.specs.Opening.{openedOf}
 use Rattle.desk.specs.Calls.{disorder}
 use Rattle.desk.specs.Asking.{askLines, requested, with-job, Asked}
-use Rattle.desk.specs.Meshes.{meshLines, AskedMesh}
+use Rattle.counter.specs.Meshes.{meshLines, AskedMesh}
 use Rattle.desk.specs.Runs.{Call, ask, look, Right, after, run, AllRight, NotEnded}
 use Rattle.desk.specs.Kept.{JobKept}
 use Rattle.refusals.proofs.Refusals.{yes-is-not-no}
 use Rattle.desk.proofs.Promises.{taken-exactly-if-it-fits, every-yes-is-kept}
 
 -- a call of a run that the contract allows and that hands back this state
 pub record AsACall (d e : Desk) : Type 0 where

@@ -18,13 +18,13 @@ use Rattle.refusals.specs.declared.Verdict.{Verdict}
 use Rattle.refusals.specs.declared.Verdict.the-variants.{Yes, No}
 use Rattle.refusals.specs.Refusals.{line, firstOf}
 use Rattle.refusals.proofs.Refusals.{stops, goes-on, yes-is-not-no}
 use Rattle.desk.specs.declared.Desk.{Desk}
 use Rattle.desk.specs.declared.Answer.{Answer}
 use Rattle.desk.specs.State.{inOrder}
 use Rattle.desk.specs.Calls.{disorder}
 use Rattle.desk.specs.Asking.{askLines, Asked}
-use Rattle.desk.specs.Meshes.{meshLines, refusedOf, AskedMesh}
+use Rattle.counter.specs.Meshes.{meshLines, refusedOf, AskedMesh}
 use Rattle.desk.proofs.Asking.{asked-once}
 
 -- what reading a mesh comes to
 abbrev pub verdictOf : Mesh → Verdict

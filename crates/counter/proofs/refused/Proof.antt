@@ -1,10 +1,10 @@
--- `desk::Desk::refused` meets its contract. Assumes nothing.
+-- `counter::refused` meets its contract. Assumes nothing.
 use mathlib.Core.Path.{sym, _∙_}
 use borrow.Author.Tests.{not-true, not-false}
 use borrow.Author.Needs.{needs}
-use Rattle.desk.proofs.Meshes.{refused-out, refused-by}
-use Rattle.desk.proofs.Desk.refused.Statement.{statement}
-use Rattle.desk.proofs.Desk.refused.Tie as tie
+use Rattle.counter.proofs.Meshes.{refused-out, refused-by}
+use Rattle.counter.proofs.refused.Statement.{statement}
+use Rattle.counter.proofs.refused.Tie as tie
 
 in-order-requires : tie.Need-in-order-requires
 in-order-requires c κs = search needs

@@ -1,9 +1,9 @@
--- `desk::Desk::ask_mesh` meets its contract, by what the mesh says. Assumes nothing.
+-- `counter::ask_mesh` meets its contract, by what the mesh says. Assumes nothing.
 use mathlib.Core.Path.{refl, sym, _∙_}
 use borrow.Author.Needs.{needs}
-use Rattle.desk.proofs.Meshes.{mesh-stopped, mesh-asked}
-use Rattle.desk.proofs.Desk.ask_mesh.Statement.{statement}
-use Rattle.desk.proofs.Desk.ask_mesh.Tie as tie
+use Rattle.counter.proofs.Meshes.{mesh-stopped, mesh-asked}
+use Rattle.counter.proofs.ask_mesh.Statement.{statement}
+use Rattle.counter.proofs.ask_mesh.Tie as tie
 
 read-requires : tie.Need-read-requires
 read-requires c κs = search needs

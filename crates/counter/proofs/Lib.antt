@@ -1,0 +1,3 @@
+pub mod Meshes
+pub mod MeshPromises
+pub mod Whys
