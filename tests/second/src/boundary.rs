@@ -48,6 +48,18 @@ pub struct Answer {
     pub refusal: u32,
 }
 
+/// Why a request is refused, or how near it comes to that.
+#[derive(Clone, Copy, Debug, Default, PartialEq, Eq)]
+#[repr(C)]
+pub struct Reason {
+    pub refusal: u32,
+    pub at: u64,
+    pub jobs: u64,
+    pub feeds: u64,
+    pub job: u64,
+    pub margin: i64,
+}
+
 /// Kind 0 is idle, 1 a job by number, 2 a feed by position.
 #[derive(Clone, Copy, Debug, PartialEq, Eq)]
 #[repr(C)]
@@ -89,6 +101,7 @@ pub trait Library {
     fn open(&self, list: &[u32], start: u64) -> Answer;
     fn ask(&self, desk: Desk, number: u32, work: u32, lead: u32) -> Answer;
     fn ask_mesh(&self, desk: Desk, head: &[u8], size: u64, number: u32, lead: u32) -> Answer;
+    fn why(&self, desk: Desk, number: u32, work: u32, lead: u32) -> Reason;
     fn step(&self, desk: Desk) -> Stepped;
     fn end(&self, desk: Desk, number: u32) -> Answer;
     fn rest(&self, desk: Desk, position: u32) -> Answer;
@@ -115,6 +128,7 @@ mod linked {
             number: u32,
             lead: u32,
         ) -> Answer;
+        fn desk_why(desk: Desk, number: u32, work: u32, lead: u32) -> Reason;
         fn desk_step(desk: Desk) -> Stepped;
         fn desk_end(desk: Desk, number: u32) -> Answer;
         fn desk_rest(desk: Desk, position: u32) -> Answer;
@@ -139,6 +153,9 @@ mod linked {
         }
         fn ask_mesh(&self, desk: Desk, head: &[u8], size: u64, number: u32, lead: u32) -> Answer {
             unsafe { desk_ask_mesh(desk, head.as_ptr(), head.len(), size, number, lead) }
+        }
+        fn why(&self, desk: Desk, number: u32, work: u32, lead: u32) -> Reason {
+            unsafe { desk_why(desk, number, work, lead) }
         }
         fn step(&self, desk: Desk) -> Stepped {
             unsafe { desk_step(desk) }

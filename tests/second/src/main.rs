@@ -13,6 +13,7 @@ mod mesh;
 mod model;
 mod own;
 mod random;
+mod reason;
 mod script;
 #[cfg(test)]
 mod tests;

@@ -1,9 +1,10 @@
 //! A plain model of the desk, in the document's words and nothing cleverer.
 //!
-//! Every call follows the document's order of refusals. The one hard question,
-//! whether a request fits, is not answered here: see `ahead`.
+//! Every call follows the document's order of refusals. The hard questions are
+//! not answered here: whether a request fits (see `ahead`), and where it fails or
+//! comes nearest to failing (see `reason`).
 
-use crate::{ahead, mesh};
+use crate::{ahead, mesh, reason};
 
 /// A reading of the clock, or a deadline.
 pub type Instant = u64;
@@ -75,6 +76,20 @@ pub enum Runner {
 pub struct Ran {
     pub runner: Runner,
     pub owes: Length,
+}
+
+/// Why a request is refused (0 if it would be taken). With 6: the earliest
+/// overbooked instant, what the live jobs, the feeds and the new job owe by then,
+/// and the margin there, below zero. With 0: the smallest margin and the earliest
+/// instant that has it. All else is 0.
+#[derive(Clone, Copy, Debug, Default, PartialEq, Eq)]
+pub struct Reason {
+    pub refusal: Refusal,
+    pub at: Instant,
+    pub jobs: Length,
+    pub feeds: Length,
+    pub job: Length,
+    pub margin: i64,
 }
 
 /// The place of a label in one of the two lent lists.
@@ -268,6 +283,21 @@ impl Desk {
             return Err(NOT_IN_ORDER);
         }
         self.ask(number, mesh::work(head, size)?, lead)
+    }
+
+    /// Why: the number that asking would give, and for 6 and 0 where that comes
+    /// from. Rehearsing and adding up have to agree on line 6.
+    pub fn why(&self, number: u32, work: u32, lead: u32) -> Reason {
+        let refusal = self.ask(number, work, lead).err().unwrap_or(0);
+        if ![0, DOES_NOT_FIT].contains(&refusal) {
+            return Reason {
+                refusal,
+                ..Reason::default()
+            };
+        }
+        let reason = reason::reason(self, work.into(), lead.into());
+        assert_eq!(reason.refusal, refusal, "line 6 by two methods: {self:?}");
+        reason
     }
 
     /// Who would get the tick at the clock's instant: the ready work with the

@@ -1,6 +1,6 @@
 //! The model behind the C boundary's shapes: what every call should answer.
 
-use crate::boundary::{Answer, Desk, Feed, Job, Label, Library, Listed, Stepped};
+use crate::boundary::{Answer, Desk, Feed, Job, Label, Library, Listed, Reason, Stepped};
 use crate::model::{self, Place, Refusal, Runner, NOT_IN_ORDER};
 
 /// The state that these fixed tables hold; nothing if a count is above its
@@ -127,6 +127,32 @@ impl Library for Own {
             desk,
             state_of(&desk).and_then(|state| state.ask_mesh(head, size, number, lead)),
         )
+    }
+
+    fn why(&self, desk: Desk, number: u32, work: u32, lead: u32) -> Reason {
+        let reason = match state_of(&desk) {
+            Ok(state) => state.why(number, work, lead),
+            Err(refusal) => model::Reason {
+                refusal,
+                ..model::Reason::default()
+            },
+        };
+        let model::Reason {
+            refusal,
+            at,
+            jobs,
+            feeds,
+            job,
+            margin,
+        } = reason;
+        Reason {
+            refusal,
+            at,
+            jobs,
+            feeds,
+            job,
+            margin,
+        }
     }
 
     fn step(&self, desk: Desk) -> Stepped {

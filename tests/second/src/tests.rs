@@ -1,16 +1,17 @@
 //! Tests of this program itself: the document's examples, each refusal, each
-//! kind of bad line, each band of a mesh, the rehearsal ahead against two slower
-//! ways of knowing, and the comparing of calls against libraries with one fault
-//! planted.
+//! kind of bad line, each band of a mesh, the reasons against a slower way of
+//! adding up, the rehearsal ahead against two slower ways of knowing, and the
+//! comparing of calls against libraries with one fault planted.
 
 use crate::ahead;
-use crate::boundary::{Answer, Label, Library, Listed, Stepped};
+use crate::boundary::{self, Answer, Label, Library, Listed, Stepped};
 use crate::calls;
 use crate::invent::BENCH;
 use crate::mesh;
 use crate::model::*;
 use crate::own::{read, write, Own};
 use crate::random::Random;
+use crate::reason::{Instants, Owed, FAR_ENOUGH};
 use crate::script::{rehearse, INPUT_MOST};
 use std::cell::{Cell, RefCell};
 use std::collections::BTreeSet;
@@ -338,6 +339,300 @@ fn a_mesh_that_passes_is_asked_for_as_any_job() {
         assert_eq!(desk.ask_mesh(&head, size, number, lead), asked);
     }
     assert!((50..450).contains(&taken), "both often: {taken} taken");
+}
+
+// ---------------------------------------------------------------- reasons
+
+/// What stands with 6.
+fn overbooked(at: Instant, jobs: u64, feeds: u64, job: u64, margin: i64) -> Reason {
+    Reason {
+        refusal: 6,
+        at,
+        jobs,
+        feeds,
+        job,
+        margin,
+    }
+}
+
+/// What stands with 0.
+fn tightest(margin: i64, at: Instant) -> Reason {
+    Reason {
+        at,
+        margin,
+        ..Reason::default()
+    }
+}
+
+/// By 4 the first feed owes 1, by 6 both owe 1 + 2, by 8 2 + 2, by 12 3 + 4.
+#[test]
+fn reasons_on_x() {
+    let why = |work, lead| x().why(1, work, lead);
+    assert_eq!(why(3, 6), tightest(0, 6));
+    assert_eq!(why(4, 6), overbooked(6, 0, 3, 4, -1));
+    assert_eq!(why(9, 6), overbooked(6, 0, 3, 9, -6));
+    assert_eq!(why(4, 7), tightest(0, 7));
+    assert_eq!(why(5, 12), tightest(0, 12));
+    assert_eq!(why(6, 12), overbooked(12, 0, 7, 6, -1));
+    assert_eq!(why(6, 13), tightest(0, 13));
+    // The margin at 4, 6 and 8 is 1 or 2, and it is 1 at the first instant.
+    assert_eq!(why(2, 4), tightest(1, 1));
+    assert_eq!(why(3, 4), tightest(0, 4));
+    // It is the feeds that would be late: by 6, and not by its own deadline.
+    assert_eq!(why(4, 5), overbooked(6, 0, 3, 4, -1));
+    assert_eq!(why(65_536, 1), overbooked(1, 0, 0, 65_536, -65_535));
+}
+
+#[test]
+fn reasons_of_full_feeds() {
+    let full = open(&[2, 1, 0, 4, 2, 0], 0).unwrap();
+    // Every fourth instant has margin 0 without it: the first of them that it is
+    // owed by is overbooked.
+    assert_eq!(full.why(1, 1, 65_536), overbooked(65_536, 0, 65_536, 1, -1));
+    assert_eq!(full.why(1, 1, 65_533), overbooked(65_536, 0, 65_536, 1, -1));
+    assert_eq!(full.why(1, 1, 1), overbooked(4, 0, 4, 1, -1));
+    let rested = full.rest(1).unwrap();
+    // Again 0 at every fourth instant, but the first counts.
+    assert_eq!(rested.why(1, 1, 1), tightest(0, 1));
+    assert_eq!(rested.why(1, 1, 65_536), tightest(0, 65_536));
+    assert_eq!(rested.why(1, 1, 65_535), tightest(0, 65_536));
+    assert_eq!(rested.why(1, 1, 4), tightest(0, 4));
+    let whole = open(&[4, 4, 0], 0).unwrap();
+    assert_eq!(whole.why(1, 1, 1), overbooked(4, 0, 4, 1, -1));
+}
+
+#[test]
+fn reasons_of_jobs_alone() {
+    let desk = open(&[], 0).unwrap();
+    assert_eq!(desk.why(1, 1, 65_536), tightest(1, 1));
+    assert_eq!(desk.why(1, 65_535, 65_536), tightest(1, 1));
+    assert_eq!(desk.why(1, 65_536, 65_536), tightest(0, 65_536));
+    let later = open(&[], 1_000_000).unwrap();
+    assert_eq!(later.why(1, 1, 65_536), tightest(1, 1_000_001));
+    assert_eq!(later.why(1, 1, 1), tightest(0, 1_000_001));
+    let one = desk.ask(1, 3, 4).unwrap();
+    assert_eq!(one.why(2, 2, 2), overbooked(4, 3, 0, 2, -1));
+    assert_eq!(one.why(2, 2, 4), overbooked(4, 3, 0, 2, -1));
+    assert_eq!(one.why(2, 3, 2), overbooked(2, 0, 0, 3, -1));
+    assert_eq!(one.why(2, 2, 5), tightest(0, 5));
+    assert_eq!(one.why(2, 1, 4), tightest(0, 4));
+    assert_eq!(one.why(2, 1, 5), tightest(1, 1));
+    // What was given counts no more, and the time is that from the clock.
+    let (one, _) = one.step().unwrap();
+    assert_eq!(one.why(2, 3, 2), overbooked(3, 0, 0, 3, -1));
+    assert_eq!(one.why(2, 2, 2), overbooked(4, 2, 0, 2, -1));
+    assert_eq!(one.why(2, 1, 3), tightest(0, 4));
+}
+
+/// What the current piece still owes, not what it came with; and no piece at all
+/// before the first has come.
+#[test]
+fn reasons_with_pieces_that_ran_or_have_not_come() {
+    let (desk, ran) = open(&[10, 4, 0], 0).unwrap().step().unwrap();
+    assert_eq!(ran.owes, 3);
+    assert_eq!(desk.why(1, 6, 9), tightest(0, 10));
+    assert_eq!(desk.why(1, 7, 9), overbooked(10, 0, 3, 7, -1));
+    // Both clocks are before the piece of instant 7, due at 17.
+    for clock in [0, 6] {
+        let desk = open(&[10, 10, 7], clock).unwrap();
+        let room = 7 - clock as u32;
+        assert_eq!(desk.why(1, room, room), tightest(0, 7));
+        let why = desk.why(1, room + 1, room + 1);
+        assert_eq!(why, overbooked(17, 0, 10, 8 - clock, -1));
+    }
+    // Opened in mid-period: the piece of instant 7 never was.
+    let desk = open(&[10, 10, 7], 8).unwrap();
+    assert_eq!(desk.why(1, 9, 9), tightest(0, 17));
+    assert_eq!(desk.why(1, 10, 10), overbooked(27, 0, 10, 10, -1));
+}
+
+/// The first whole piece is due long after the last job.
+#[test]
+fn a_reason_long_after_the_last_job() {
+    let rested = |start: u64| {
+        let feed = [40_320, 40_320, (start % 40_320) as u32];
+        open(&feed, start).unwrap().rest(1).unwrap()
+    };
+    for start in [0, 12_345, LAST_INSTANT - 65_536] {
+        let (desk, at) = (rested(start), start + 80_640);
+        assert_eq!(desk.why(1, 40_320, 65_536), tightest(0, at));
+        let why = desk.why(1, 40_321, 65_536);
+        assert_eq!(why, overbooked(at, 0, 40_320, 40_321, -1));
+        // By its own deadline it owes just the time that there is.
+        let why = desk.why(1, 65_536, 65_536);
+        assert_eq!(why, overbooked(at, 0, 40_320, 65_536, -25_216));
+        // The same margin, 1, is there at the first instant.
+        assert_eq!(desk.why(1, 40_319, 65_536), tightest(1, start + 1));
+    }
+}
+
+#[test]
+fn reasons_past_the_last_instant() {
+    let desk = open(&[10, 10, 7], LAST_INSTANT - 2).unwrap();
+    // 2^40 leaves 6 when divided by 10, so that pieces come at 2^40 + 1 and so on.
+    assert_eq!(LAST_INSTANT % 10, 6);
+    assert_eq!(desk.why(1, 1, 1), tightest(0, LAST_INSTANT - 1));
+    assert_eq!(desk.why(1, 1, 2), tightest(1, LAST_INSTANT - 1));
+    assert_eq!(desk.why(1, 2, 2), tightest(0, LAST_INSTANT));
+    let why = desk.why(1, 3, 2);
+    assert_eq!(why, overbooked(LAST_INSTANT, 0, 0, 3, -1));
+    let (desk, _) = desk.ask(1, 2, 2).unwrap().step().unwrap();
+    assert_eq!(desk.why(2, 1, 1), overbooked(LAST_INSTANT, 1, 0, 1, -1));
+    let full = open(&[8, 8, 0], LAST_INSTANT - 1).unwrap();
+    assert_eq!(LAST_INSTANT % 8, 0);
+    assert_eq!(full.why(1, 1, 1), tightest(0, LAST_INSTANT));
+    let full = open(&[8, 8, 1], LAST_INSTANT - 1).unwrap();
+    assert_eq!(full.why(1, 1, 1), tightest(0, LAST_INSTANT));
+    let mut full = open(&[8, 4, 1, 8, 4, 3], LAST_INSTANT - 6).unwrap();
+    while full.clock < LAST_INSTANT - 1 {
+        full = full.step().unwrap().0;
+    }
+    // Opened between the first's release and the second's, whose piece has run to
+    // its end: nothing is owed by 2^40 + 1 and 2^40 + 3.
+    assert_eq!(full.why(1, 1, 1), tightest(0, LAST_INSTANT));
+    let mut later = full.clone();
+    later.feeds[0].owes = 1;
+    assert_eq!(later.why(1, 1, 1), tightest(0, LAST_INSTANT));
+    later.feeds[0].owes = 2;
+    let why = later.why(1, 1, 1);
+    assert_eq!(why, overbooked(LAST_INSTANT + 1, 0, 2, 1, -1));
+    // The clock at its end takes nothing more.
+    let (end, _) = full.step().unwrap();
+    assert_eq!(end.why(1, 1, 1).refusal, 3);
+}
+
+#[test]
+fn other_refusals_come_with_their_number_alone() {
+    let alone = |refusal| Reason {
+        refusal,
+        ..Reason::default()
+    };
+    let mut disordered = x();
+    disordered.clock = LAST_INSTANT + 1;
+    assert_eq!(disordered.why(0, 0, 0), alone(13));
+    assert_eq!(disordered.why(1, 1, 1), alone(13));
+    let last = open(&[4, 4, 0], LAST_INSTANT).unwrap();
+    assert_eq!(last.why(0, 0, 0), alone(1));
+    assert_eq!(last.why(1, 0, 1), alone(2));
+    assert_eq!(last.why(1, 1, 0), alone(2));
+    assert_eq!(last.why(1, 65_537, 1), alone(2));
+    assert_eq!(last.why(1, 1, 65_537), alone(2));
+    assert_eq!(last.why(1, 1, 1), alone(3));
+    let one = x().ask(1, 1, 6).unwrap();
+    assert_eq!(one.why(1, 65_536, 1), alone(4));
+    let mut full = open(&[], 0).unwrap();
+    for number in 1..=64 {
+        full = full.ask(number, 1, 64).unwrap();
+    }
+    assert_eq!(full.why(64, 65_536, 1), alone(4));
+    assert_eq!(full.why(65, 65_536, 1), alone(5));
+    assert_eq!(full.why(65, 1, 65_536), alone(5));
+    let unread = {
+        let mut desk = write(&x());
+        desk.table.jobs[7].owed = 1;
+        desk
+    };
+    let why = Own.why(unread, 1, 4, 6);
+    assert_eq!((why.refusal, why.at, why.margin), (13, 0, 0));
+    assert_eq!((why.jobs, why.feeds, why.job), (0, 0, 0));
+}
+
+/// In order all the same: 6 whatever is asked for, at an instant that the new
+/// job's deadline may come after, so that it owes nothing by then.
+#[test]
+fn reasons_on_an_overbooked_state() {
+    let job = |number, owed, deadline| Job {
+        number,
+        owed,
+        deadline,
+    };
+    let desk = Desk {
+        clock: 10,
+        feeds: x().feeds,
+        jobs: vec![job(5, 9, 20), job(4, 3, 12), job(6, 1, 11)],
+    };
+    assert!(desk.in_order());
+    // By 12 the jobs owe 1 + 3 and both current pieces are due, 1 + 2.
+    assert_eq!(desk.why(1, 7, 3), overbooked(12, 4, 3, 0, -5));
+    assert_eq!(desk.why(1, 7, 2), overbooked(12, 4, 3, 7, -12));
+    assert_eq!(desk.why(1, 1, 1), overbooked(11, 1, 0, 1, -1));
+    assert_eq!(desk.why(1, 65_536, 65_536), overbooked(12, 4, 3, 0, -5));
+    let jobs = (1..=63).map(|number| job(number, 65_536, LAST_INSTANT));
+    let most = Desk {
+        clock: LAST_INSTANT - 1,
+        feeds: Vec::new(),
+        jobs: jobs.collect(),
+    };
+    let (all, margin) = (63 * 65_536, 1 - 64 * 65_536);
+    let why = most.why(64, 65_536, 1);
+    assert_eq!(why, overbooked(LAST_INSTANT, all, 0, 65_536, margin));
+}
+
+/// All that is owed by an instant, added up afresh, piece after piece.
+fn owed_by(desk: &Desk, work: u64, lead: u64, at: Instant) -> Owed {
+    let live = desk.jobs.iter().filter(|job| job.deadline <= at);
+    let mut feeds = 0;
+    for feed in &desk.feeds {
+        let mut release = feed.next_release(desk.clock);
+        if release <= at {
+            feeds += feed.owes;
+        }
+        while release + feed.period <= at {
+            feeds += feed.work;
+            release += feed.period;
+        }
+    }
+    Owed {
+        at,
+        time: at - desk.clock,
+        jobs: live.map(|job| job.owed).sum(),
+        feeds,
+        job: if desk.clock + lead <= at { work } else { 0 },
+    }
+}
+
+/// On small states, where a round is 120 at most and so the claim of `reason` is
+/// that the instant comes no later than 40 + 120 after the clock.
+#[test]
+fn reasons_agree_with_adding_up_afresh() {
+    let mut random = Random::of(15, 0);
+    let (mut taken, mut refused, mut not_due) = (0, 0, 0);
+    for _ in 0..1_000 {
+        let desk = small_state(&mut random, &[1, 2, 3, 4, 5, 6, 8, 12, 20], 40);
+        let room = (LAST_INSTANT - desk.clock).clamp(1, 40);
+        let lead = random.between(1, room);
+        let work = random.between(1, lead / 2 + 1);
+        let why = desk.why(9, work as u32, lead as u32);
+        let all: Vec<Owed> = (1..=400)
+            .map(|time| owed_by(&desk, work, lead, desk.clock + time))
+            .collect();
+        let instants = Instants::after_the_clock(&desk, work, lead);
+        assert!(instants.take(400).eq(all.iter().copied()), "{desk:?}");
+        let expected = match all.iter().find(|owed| owed.margin() < 0) {
+            Some(o) => overbooked(o.at, o.jobs, o.feeds, o.job, o.margin()),
+            // The first of equal ones.
+            None => {
+                let least = all.iter().min_by_key(|owed| owed.margin()).unwrap();
+                tightest(least.margin(), least.at)
+            }
+        };
+        assert_eq!(why, expected, "{desk:?}");
+        assert!(why.at - desk.clock < 40 + 120);
+        match why {
+            Reason { refusal: 0, .. } => taken += 1,
+            Reason { job: 0, .. } => not_due += 1,
+            _ => refused += 1,
+        }
+    }
+    for count in [taken, refused, not_due] {
+        assert!(count > 100, "{taken} taken, {refused} refused, {not_due}");
+    }
+}
+
+/// The limits that `FAR_ENOUGH` is made of.
+#[test]
+fn far_enough_has_a_round_to_spare() {
+    assert_eq!(FAR_ENOUGH, 65_536 + 40_320 + 40_320);
 }
 
 // ---------------------------------------------------------------- steps and states
@@ -872,6 +1167,9 @@ impl Library for Faulty {
     fn ask_mesh(&self, desk: State, head: &[u8], size: u64, number: u32, lead: u32) -> Answer {
         faulty_mesh(self.0, desk, head, size, number, lead)
     }
+    fn why(&self, desk: State, number: u32, work: u32, lead: u32) -> boundary::Reason {
+        Own.why(desk, number, work, lead)
+    }
     fn step(&self, desk: State) -> Stepped {
         let mut stepped = Own.step(desk);
         let late =
@@ -1013,6 +1311,9 @@ impl Library for Watching {
             _ => (),
         }
         answer
+    }
+    fn why(&self, desk: State, number: u32, work: u32, lead: u32) -> boundary::Reason {
+        Own.why(desk, number, work, lead)
     }
     fn step(&self, desk: State) -> Stepped {
         Own.step(desk)

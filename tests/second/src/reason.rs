@@ -1,0 +1,147 @@
+//! Why a request does not fit, or how near it comes to that, by adding up: every
+//! instant after the clock in its turn, and each piece of work when its deadline
+//! comes. Nothing is rehearsed, so that this and `ahead` are two ways to know
+//! line 6.
+//!
+//! # How far is enough
+//!
+//! The margin at an instant D is the time until D less what is owed by D. Let M
+//! be an instant after the clock, at or after every job's deadline (the new one's
+//! too) and every feed's next release, and R the round. A deadline after M is
+//! that of a whole piece: it was released at the feed's next release or later.
+//! In any R instants that follow on each other a feed with period T has R/T
+//! deadlines, so from D to D + R, where D is M or later, exactly R/T whole pieces
+//! of each feed are added, together at most R by line 10, while the time until
+//! then grows by R. So the margin at D + R is never below that at D.
+//!
+//! - If some instant at or after M + R is overbooked, so is the one a round
+//!   before it: the first overbooked one comes before M + R.
+//! - If some instant at or after M + R has the smallest margin, the one a round
+//!   before it has it too: the first that has it comes before M + R.
+//!
+//! A deadline of a job lies at most 65,536 after the clock, a next release at
+//! most 40,320 after it, and no round is above 40,320. So 65,536 + 40,320
+//! instants are enough whatever the state; this program goes through one longest
+//! round more. What instants these are plays no part: they may lie past the
+//! clock's last, where feeds go on as before.
+
+use crate::model::{
+    Desk, Feed, Instant, Job, Length, Reason, DOES_NOT_FIT, JOB_LENGTH_MOST, ROUND_MOST,
+};
+
+/// So many instants after the clock are gone through.
+pub const FAR_ENOUGH: usize = (JOB_LENGTH_MOST + 2 * ROUND_MOST) as usize;
+
+/// What is owed by an instant (all that is due at or before it), by whom, and the
+/// time that there is until then.
+#[derive(Clone, Copy, Debug, PartialEq, Eq)]
+pub struct Owed {
+    pub at: Instant,
+    pub time: Length,
+    pub jobs: Length,
+    pub feeds: Length,
+    pub job: Length,
+}
+
+impl Owed {
+    pub fn margin(&self) -> i64 {
+        self.time as i64 - (self.jobs + self.feeds + self.job) as i64
+    }
+}
+
+/// A feed as its pieces fall due.
+struct Stream {
+    period: Length,
+    work: Length,
+    /// The next instant at which a piece of it falls due.
+    due: Instant,
+    /// What that piece owes: first the current one (nothing where none has
+    /// come), then whole ones.
+    owes: Length,
+}
+
+/// The instants after the clock without end, the new job among what is owed.
+pub struct Instants {
+    now: Owed,
+    /// The live jobs, latest deadline first, so that the next is at the back.
+    jobs: Vec<Job>,
+    streams: Vec<Stream>,
+    /// The new job's deadline and work.
+    new: (Instant, Length),
+}
+
+impl Instants {
+    pub fn after_the_clock(desk: &Desk, work: Length, lead: Length) -> Instants {
+        let stream = |feed: &Feed| Stream {
+            period: feed.period,
+            work: feed.work,
+            due: feed.next_release(desk.clock),
+            owes: feed.owes,
+        };
+        let mut jobs = desk.jobs.clone();
+        jobs.sort_by_key(|job| std::cmp::Reverse(job.deadline));
+        Instants {
+            now: Owed {
+                at: desk.clock,
+                time: 0,
+                jobs: 0,
+                feeds: 0,
+                job: 0,
+            },
+            jobs,
+            streams: desk.feeds.iter().map(stream).collect(),
+            new: (desk.clock + lead, work),
+        }
+    }
+}
+
+impl Iterator for Instants {
+    type Item = Owed;
+
+    fn next(&mut self) -> Option<Owed> {
+        let now = &mut self.now;
+        now.at += 1;
+        now.time += 1;
+        while self.jobs.last().map_or(false, |job| job.deadline == now.at) {
+            now.jobs += self.jobs.pop().map_or(0, |job| job.owed);
+        }
+        for stream in &mut self.streams {
+            if stream.due == now.at {
+                now.feeds += stream.owes;
+                stream.owes = stream.work;
+                stream.due += stream.period;
+            }
+        }
+        if self.new.0 == now.at {
+            now.job = self.new.1;
+        }
+        Some(*now)
+    }
+}
+
+/// The reason for a request that passed every line before 6.
+pub fn reason(desk: &Desk, work: Length, lead: Length) -> Reason {
+    let mut tightest: Option<Owed> = None;
+    for owed in Instants::after_the_clock(desk, work, lead).take(FAR_ENOUGH) {
+        if owed.margin() < 0 {
+            return Reason {
+                refusal: DOES_NOT_FIT,
+                at: owed.at,
+                jobs: owed.jobs,
+                feeds: owed.feeds,
+                job: owed.job,
+                margin: owed.margin(),
+            };
+        }
+        // The first of equal ones stays.
+        if tightest.map_or(true, |least| owed.margin() < least.margin()) {
+            tightest = Some(owed);
+        }
+    }
+    let tightest = tightest.expect("some instants were gone through");
+    Reason {
+        at: tightest.at,
+        margin: tightest.margin(),
+        ..Reason::default()
+    }
+}
