@@ -1,7 +1,7 @@
 //! Random calls, answered by this program and by a library, compared whole:
 //! the answer, every field of the state handed back, every word of the buffers.
 
-use crate::boundary::{Answer, Desk, Feed, Job, Label, Library, Listed, Stepped};
+use crate::boundary::{Answer, Desk, Feed, Job, Label, Library, Listed, Reason, Stepped};
 use crate::invent::{self, Mesh};
 use crate::model::{self, LAST_INSTANT};
 use crate::own::{read, write, Own};
@@ -48,6 +48,7 @@ enum Call {
     Open { list: Vec<u32>, start: u64 },
     Ask { number: u32, work: u32, lead: u32 },
     AskMesh { mesh: Mesh, number: u32, lead: u32 },
+    Why { number: u32, work: u32, lead: u32 },
     Step,
     End { number: u32 },
     Rest { position: u32 },
@@ -60,6 +61,7 @@ enum Said {
     Answer(Answer),
     /// With the lent front, which must come back as it was.
     Mesh(Answer, Vec<u8>),
+    Reason(Reason),
     Stepped(Stepped),
     /// With the lent buffer and the guard words behind it.
     Listed(Listed, Vec<u64>),
@@ -89,6 +91,7 @@ fn make(library: &dyn Library, desk: Desk, call: &Call) -> Said {
             let answer = library.ask_mesh(desk, &head, mesh.size, *number, *lead);
             Said::Mesh(answer, head)
         }
+        Call::Why { number, work, lead } => Said::Reason(library.why(desk, *number, *work, *lead)),
         Call::Step => Said::Stepped(library.step(desk)),
         Call::End { number } => Said::Answer(library.end(desk, *number)),
         Call::Rest { position } => Said::Answer(library.rest(desk, *position)),
@@ -110,6 +113,7 @@ fn name(call: &Call) -> &'static str {
         Call::Open { .. } => "open",
         Call::Ask { .. } => "ask",
         Call::AskMesh { .. } => "mesh",
+        Call::Why { .. } => "why",
         Call::Step => "step",
         Call::End { .. } => "end",
         Call::Rest { .. } => "rest",
@@ -123,6 +127,7 @@ fn name(call: &Call) -> &'static str {
 fn refusal(said: &Said) -> u32 {
     match said {
         Said::Answer(answer) | Said::Mesh(answer, _) => answer.refusal,
+        Said::Reason(reason) => reason.refusal,
         Said::Stepped(stepped) => stepped.refusal,
         Said::Listed(listed, _) => listed.refusal,
         Said::Label(Label { length: 0, .. }, ..) => 0,
@@ -173,7 +178,7 @@ impl Walk<'_> {
         Ok(match ours {
             Said::Answer(answer) | Said::Mesh(answer, _) => answer.desk,
             Said::Stepped(stepped) => stepped.desk,
-            Said::Listed(..) | Said::Label(..) => desk,
+            Said::Reason(_) | Said::Listed(..) | Said::Label(..) => desk,
         })
     }
 
@@ -207,6 +212,9 @@ impl Walk<'_> {
             }
             if self.random.chance(25) {
                 self.meshes_on_an_empty_desk(desk.clock)?;
+            }
+            if self.random.chance(10) {
+                self.reasons_on_a_moved_copy(desk)?;
             }
         }
         Ok(())
@@ -250,17 +258,15 @@ impl Walk<'_> {
             .unwrap_or_default();
         let random = &mut self.random;
         match random.below(100) {
-            0..=29 => {
-                let number = invent::number(random, &state);
-                let lead = invent::lead(random, &state);
-                let work = invent::work(random, &state, number, lead) as u32;
-                Call::Ask {
-                    number,
-                    work,
-                    lead: lead as u32,
-                }
+            0..=24 => {
+                let (number, work, lead) = request(random, &state);
+                Call::Ask { number, work, lead }
             }
-            30..=44 => self.some_mesh(&state),
+            25..=34 => {
+                let (number, work, lead) = request(random, &state);
+                Call::Why { number, work, lead }
+            }
+            35..=44 => self.some_mesh(&state),
             45..=54 => Call::Step,
             55..=62 => Call::End {
                 number: invent::live_or_not(random, &state),
@@ -342,6 +348,31 @@ impl Walk<'_> {
         Ok(())
     }
 
+    /// At another instant, often so near the end that what decides lies past it,
+    /// and with pieces that ran in part: then it is often a later piece that is
+    /// the first to be late, or the one that comes nearest to it.
+    fn reasons_on_a_moved_copy(&mut self, desk: Desk) -> Result<(), String> {
+        let mut moved = desk;
+        move_on(&mut self.random, &mut moved);
+        let state = read(&moved)
+            .filter(|state| state.in_order())
+            .unwrap_or_default();
+        let room = (LAST_INSTANT - state.clock).min(65_536);
+        for _ in 0..self.random.between(1, 3) {
+            let random = &mut self.random;
+            let number = invent::number(random, &state);
+            let lead = match random.below(4) {
+                0 => invent::lead(random, &state),
+                1 => room,
+                _ => random.between(1, room.max(1)),
+            };
+            let work = invent::work(random, &state, number, lead) as u32;
+            let lead = lead as u32;
+            self.call(moved, Call::Why { number, work, lead })?;
+        }
+        Ok(())
+    }
+
     /// Out of order by one field, mostly: then every call says so.
     fn on_a_damaged_copy(&mut self, desk: Desk) -> Result<(), String> {
         let mut damaged = desk;
@@ -370,6 +401,14 @@ impl Walk<'_> {
         }
         Ok(())
     }
+}
+
+/// A number, a work and a lead to ask with.
+fn request(random: &mut Random, state: &model::Desk) -> (u32, u32, u32) {
+    let number = invent::number(random, state);
+    let lead = invent::lead(random, state);
+    let work = invent::work(random, state, number, lead);
+    (number, work as u32, lead as u32)
 }
 
 /// Many ticks at once, by the model alone, to get far from the opening.
@@ -469,6 +508,40 @@ fn overbook(random: &mut Random, desk: &mut Desk) {
             }
         }
     }
+    debug_assert!(state.in_order());
+    *desk = write(&state);
+}
+
+/// The same feeds at another instant, their current pieces having run in part, and
+/// the jobs that find their place there.
+fn move_on(random: &mut Random, desk: &mut Desk) {
+    let mut state = match read(desk).filter(|state| state.in_order()) {
+        Some(state) => state,
+        None => return,
+    };
+    let longest = state.feeds.iter().map(|feed| feed.period).max();
+    let clock = match random.below(4) {
+        0 => state.clock,
+        1 => LAST_INSTANT - random.below(60),
+        2 => LAST_INSTANT - random.below(2 * longest.unwrap_or(9)),
+        _ => LAST_INSTANT - random.between(65_000, 65_600),
+    };
+    for feed in &mut state.feeds {
+        feed.owes = match random.below(4) {
+            _ if clock < feed.offset => 0,
+            0 => 0,
+            1 => feed.work,
+            _ => random.below(feed.work + 1),
+        };
+    }
+    for job in &mut state.jobs {
+        job.deadline = job.deadline - state.clock + clock;
+    }
+    state.jobs.retain(|job| job.deadline <= LAST_INSTANT);
+    if random.chance(50) {
+        state.jobs.clear();
+    }
+    state.clock = clock;
     debug_assert!(state.in_order());
     *desk = write(&state);
 }
@@ -652,6 +725,7 @@ fn tell(said: &Said) -> String {
         Said::Answer(answer) | Said::Mesh(answer, _) => {
             format!("refusal {}\n{}", answer.refusal, short(&answer.desk))
         }
+        Said::Reason(reason) => format!("{reason:?}"),
         Said::Stepped(Stepped {
             desk,
             refusal,

@@ -32,21 +32,15 @@ use crate::model::{
 /// So many instants after the clock are gone through.
 pub const FAR_ENOUGH: usize = (JOB_LENGTH_MOST + 2 * ROUND_MOST) as usize;
 
-/// What is owed by an instant (all that is due at or before it), by whom, and the
-/// time that there is until then.
+/// What is owed by an instant (all that is due at or before it) and by whom, and
+/// the margin there: the time until then less all of it.
 #[derive(Clone, Copy, Debug, PartialEq, Eq)]
 pub struct Owed {
     pub at: Instant,
-    pub time: Length,
     pub jobs: Length,
     pub feeds: Length,
     pub job: Length,
-}
-
-impl Owed {
-    pub fn margin(&self) -> i64 {
-        self.time as i64 - (self.jobs + self.feeds + self.job) as i64
-    }
+    pub margin: i64,
 }
 
 /// A feed as its pieces fall due.
@@ -68,6 +62,8 @@ pub struct Instants {
     streams: Vec<Stream>,
     /// The new job's deadline and work.
     new: (Instant, Length),
+    /// The next instant at which anything falls due.
+    soonest: Instant,
 }
 
 impl Instants {
@@ -80,18 +76,53 @@ impl Instants {
         };
         let mut jobs = desk.jobs.clone();
         jobs.sort_by_key(|job| std::cmp::Reverse(job.deadline));
-        Instants {
+        let mut instants = Instants {
             now: Owed {
                 at: desk.clock,
-                time: 0,
                 jobs: 0,
                 feeds: 0,
                 job: 0,
+                margin: 0,
             },
             jobs,
             streams: desk.feeds.iter().map(stream).collect(),
             new: (desk.clock + lead, work),
+            soonest: desk.clock,
+        };
+        instants.fall_due();
+        instants
+    }
+
+    /// Adds what is due at this very instant (at the clock nothing is), and looks
+    /// for the next at which something will be.
+    fn fall_due(&mut self) {
+        let now = &mut self.now;
+        let (mut jobs, mut feeds, mut job) = (0, 0, 0);
+        self.soonest = Instant::MAX;
+        while self.jobs.last().map_or(false, |job| job.deadline == now.at) {
+            jobs += self.jobs.pop().map_or(0, |job| job.owed);
         }
+        if let Some(job) = self.jobs.last() {
+            self.soonest = job.deadline;
+        }
+        for stream in &mut self.streams {
+            if stream.due == now.at {
+                feeds += stream.owes;
+                stream.owes = stream.work;
+                stream.due += stream.period;
+            }
+            self.soonest = self.soonest.min(stream.due);
+        }
+        let (deadline, work) = self.new;
+        if deadline == now.at {
+            job += work;
+        } else if deadline > now.at {
+            self.soonest = self.soonest.min(deadline);
+        }
+        now.jobs += jobs;
+        now.feeds += feeds;
+        now.job += job;
+        now.margin -= (jobs + feeds + job) as i64;
     }
 }
 
@@ -99,49 +130,37 @@ impl Iterator for Instants {
     type Item = Owed;
 
     fn next(&mut self) -> Option<Owed> {
-        let now = &mut self.now;
-        now.at += 1;
-        now.time += 1;
-        while self.jobs.last().map_or(false, |job| job.deadline == now.at) {
-            now.jobs += self.jobs.pop().map_or(0, |job| job.owed);
+        self.now.at += 1;
+        self.now.margin += 1;
+        if self.now.at == self.soonest {
+            self.fall_due();
         }
-        for stream in &mut self.streams {
-            if stream.due == now.at {
-                now.feeds += stream.owes;
-                stream.owes = stream.work;
-                stream.due += stream.period;
-            }
-        }
-        if self.new.0 == now.at {
-            now.job = self.new.1;
-        }
-        Some(*now)
+        Some(self.now)
     }
 }
 
 /// The reason for a request that passed every line before 6.
 pub fn reason(desk: &Desk, work: Length, lead: Length) -> Reason {
-    let mut tightest: Option<Owed> = None;
+    let (mut at, mut margin) = (desk.clock, i64::MAX);
     for owed in Instants::after_the_clock(desk, work, lead).take(FAR_ENOUGH) {
-        if owed.margin() < 0 {
+        if owed.margin < 0 {
             return Reason {
                 refusal: DOES_NOT_FIT,
                 at: owed.at,
                 jobs: owed.jobs,
                 feeds: owed.feeds,
                 job: owed.job,
-                margin: owed.margin(),
+                margin: owed.margin,
             };
         }
         // The first of equal ones stays.
-        if tightest.map_or(true, |least| owed.margin() < least.margin()) {
-            tightest = Some(owed);
+        if owed.margin < margin {
+            (at, margin) = (owed.at, owed.margin);
         }
     }
-    let tightest = tightest.expect("some instants were gone through");
     Reason {
-        at: tightest.at,
-        margin: tightest.margin(),
+        at,
+        margin,
         ..Reason::default()
     }
 }

@@ -11,7 +11,7 @@ use crate::mesh;
 use crate::model::*;
 use crate::own::{read, write, Own};
 use crate::random::Random;
-use crate::reason::{Instants, Owed, FAR_ENOUGH};
+use crate::reason::{reason, Instants, Owed, FAR_ENOUGH};
 use crate::script::{rehearse, INPUT_MOST};
 use std::cell::{Cell, RefCell};
 use std::collections::BTreeSet;
@@ -571,6 +571,7 @@ fn reasons_on_an_overbooked_state() {
 /// All that is owed by an instant, added up afresh, piece after piece.
 fn owed_by(desk: &Desk, work: u64, lead: u64, at: Instant) -> Owed {
     let live = desk.jobs.iter().filter(|job| job.deadline <= at);
+    let jobs = live.map(|job| job.owed).sum();
     let mut feeds = 0;
     for feed in &desk.feeds {
         let mut release = feed.next_release(desk.clock);
@@ -582,12 +583,13 @@ fn owed_by(desk: &Desk, work: u64, lead: u64, at: Instant) -> Owed {
             release += feed.period;
         }
     }
+    let job = if desk.clock + lead <= at { work } else { 0 };
     Owed {
         at,
-        time: at - desk.clock,
-        jobs: live.map(|job| job.owed).sum(),
+        jobs,
         feeds,
-        job: if desk.clock + lead <= at { work } else { 0 },
+        job,
+        margin: (at - desk.clock) as i64 - (jobs + feeds + job) as i64,
     }
 }
 
@@ -608,12 +610,12 @@ fn reasons_agree_with_adding_up_afresh() {
             .collect();
         let instants = Instants::after_the_clock(&desk, work, lead);
         assert!(instants.take(400).eq(all.iter().copied()), "{desk:?}");
-        let expected = match all.iter().find(|owed| owed.margin() < 0) {
-            Some(o) => overbooked(o.at, o.jobs, o.feeds, o.job, o.margin()),
+        let expected = match all.iter().find(|owed| owed.margin < 0) {
+            Some(o) => overbooked(o.at, o.jobs, o.feeds, o.job, o.margin),
             // The first of equal ones.
             None => {
-                let least = all.iter().min_by_key(|owed| owed.margin()).unwrap();
-                tightest(least.margin(), least.at)
+                let least = all.iter().min_by_key(|owed| owed.margin).unwrap();
+                tightest(least.margin, least.at)
             }
         };
         assert_eq!(why, expected, "{desk:?}");
@@ -1119,30 +1121,8 @@ fn lateness_can_come_long_after_the_last_job() {
 
 // ---------------------------------------------------------------- comparing calls
 
-#[test]
-fn a_right_library_passes() {
-    let tally = calls::compare(&Own, 5, 30_000).unwrap();
-    let refusals = [
-        ("open", vec![0, 2, 3, 8, 9, 10, 12]),
-        ("ask", vec![0, 1, 2, 3, 4, 5, 6, 13]),
-        ("mesh", vec![0, 1, 2, 3, 4, 5, 6, 13, 15, 16, 17]),
-        ("step", vec![0, 3, 13]),
-        ("end", vec![0, 7, 13]),
-        ("rest", vec![0, 7, 13]),
-        ("list", vec![0, 11, 13]),
-        ("label", vec![0, 101, 102]),
-    ];
-    for (call, numbers) in refusals {
-        for number in numbers {
-            assert!(
-                tally.contains_key(&(call, number)),
-                "{call} {number} never came"
-            );
-        }
-    }
-}
-
-/// A library with one fault, by number; from 11 on it is one of the mesh.
+/// A library with one fault, by number; from 11 on it is one of the mesh, from 50
+/// on one of the reasons.
 struct Faulty(u32);
 
 type State = crate::boundary::Desk;
@@ -1168,7 +1148,13 @@ impl Library for Faulty {
         faulty_mesh(self.0, desk, head, size, number, lead)
     }
     fn why(&self, desk: State, number: u32, work: u32, lead: u32) -> boundary::Reason {
-        Own.why(desk, number, work, lead)
+        let right = Own.why(desk, number, work, lead);
+        match (self.0, right.refusal) {
+            (0..=49, _) => right,
+            (fault, 0) => faulty_tightest(fault, desk, work, lead, right),
+            (fault, 6) => faulty_overbooked(fault, desk, work, lead, right),
+            (fault, _) => faulty_number_alone(fault, desk, work, right),
+        }
     }
     fn step(&self, desk: State) -> Stepped {
         let mut stepped = Own.step(desk);
@@ -1261,19 +1247,199 @@ fn faulty_mesh(fault: u32, desk: State, head: &[u8], size: u64, number: u32, lea
     answer
 }
 
+/// The instants that a right library goes through, and what is owed by each.
+fn gone_through(desk: &State, work: u32, lead: u32) -> impl Iterator<Item = Owed> {
+    let state = read(desk).unwrap();
+    Instants::after_the_clock(&state, work.into(), lead.into()).take(FAR_ENOUGH)
+}
+
+/// Wrong by this fault where the request would be taken.
+fn faulty_tightest(
+    fault: u32,
+    desk: State,
+    work: u32,
+    lead: u32,
+    right: boundary::Reason,
+) -> boundary::Reason {
+    let all = || gone_through(&desk, work, lead);
+    let first_least = |among: &mut dyn Iterator<Item = Owed>| {
+        let least = among.min_by_key(|owed| owed.margin).unwrap();
+        boundary::Reason {
+            at: least.at,
+            margin: least.margin,
+            ..right
+        }
+    };
+    let last_deadline = desk.table.jobs.iter().map(|job| job.deadline).max();
+    let own_deadline = desk.clock + u64::from(lead);
+    let mut why = right;
+    match fault {
+        // The instant one later or earlier, or told as a length, or in 32 bits.
+        50 => why.at += 1,
+        51 => why.at -= 1,
+        52 => why.at -= desk.clock,
+        53 => why.at = why.at as u32 as u64,
+        // A margin of the other sign, one off, or 0 where there is some.
+        54 => why.margin = -why.margin,
+        55 => why.margin -= 1,
+        56 => why.margin = 0,
+        // The clock itself counted as an instant.
+        57 => (why.at, why.margin) = (desk.clock, 0),
+        // The last of equal margins, or the one after the first.
+        58 => why.at = all().filter(|o| o.margin == why.margin).last().unwrap().at,
+        59 => {
+            let mut equal = all().filter(|owed| owed.margin == why.margin);
+            why.at = equal.nth(1).map_or(why.at, |owed| owed.at);
+        }
+        // Looking only at its own deadline, to its own, or to the last of a job.
+        60 => return first_least(&mut all().filter(|owed| owed.at == own_deadline)),
+        61 => return first_least(&mut all().take_while(|owed| owed.at <= own_deadline)),
+        62 => {
+            let last = last_deadline.max(Some(own_deadline));
+            return first_least(&mut all().take_while(|owed| Some(owed.at) <= last));
+        }
+        // Looking only to the clock's last instant.
+        63 => return first_least(&mut all().take_while(|owed| owed.at <= LAST_INSTANT)),
+        // Without the first instant.
+        64 => return first_least(&mut all().skip(1)),
+        // What the state owes without the new job.
+        65 => return first_least(&mut gone_through(&desk, 0, lead)),
+        // The parts too.
+        66 => {
+            let owed = all().find(|owed| owed.at == why.at).unwrap();
+            (why.jobs, why.feeds, why.job) = (owed.jobs, owed.feeds, owed.job);
+        }
+        _ => (),
+    }
+    why
+}
+
+/// Wrong by this fault where the request does not fit.
+fn faulty_overbooked(
+    fault: u32,
+    desk: State,
+    work: u32,
+    lead: u32,
+    right: boundary::Reason,
+) -> boundary::Reason {
+    let state = read(&desk).unwrap();
+    let told = |owed: Owed| boundary::Reason {
+        refusal: 6,
+        at: owed.at,
+        jobs: owed.jobs,
+        feeds: owed.feeds,
+        job: owed.job,
+        margin: owed.margin,
+    };
+    let all = gone_through(&desk, work, lead);
+    let before = || reason(&state, 0, lead.into()).refusal == DOES_NOT_FIT;
+    let mut why = right;
+    match fault {
+        70 => why.at += 1,
+        71 => why.at -= 1,
+        72 => why.at -= desk.clock,
+        73 => why.at = why.at as u32 as u64,
+        // A part exchanged with another.
+        74 => std::mem::swap(&mut why.jobs, &mut why.feeds),
+        75 => std::mem::swap(&mut why.feeds, &mut why.job),
+        76 => std::mem::swap(&mut why.jobs, &mut why.job),
+        // A margin of the other sign, one off, none, or without its sign in 32 bits.
+        77 => why.margin = -why.margin,
+        78 => why.margin += 1,
+        79 => why.margin = 0,
+        80 => why.margin = why.margin as u32 as i64,
+        // The worst instant, or the next overbooked one.
+        81 => return told(all.min_by_key(|owed| owed.margin).unwrap()),
+        82 => return all.filter(|o| o.margin < 0).nth(1).map_or(why, told),
+        // All that is promised, due by then or not.
+        83 => why.jobs = state.jobs.iter().map(|job| job.owed).sum(),
+        84 => why.job = work.into(),
+        85 => {
+            let waiting = |feed: &&Feed| feed.next_release(desk.clock) > why.at;
+            let current = state.feeds.iter().filter(waiting);
+            why.feeds += current.map(|feed| feed.owes).sum::<u64>();
+        }
+        // Current pieces as they came.
+        86 => {
+            let mut state = state.clone();
+            for feed in &mut state.feeds {
+                if desk.clock >= feed.offset {
+                    feed.owes = feed.work;
+                }
+            }
+            let mut all = Instants::after_the_clock(&state, work.into(), lead.into());
+            return told(all.find(|owed| owed.margin < 0).unwrap());
+        }
+        // The margin without the new job.
+        87 => why.margin += why.job as i64,
+        // Instants after the clock's last one told as that one, or not looked at.
+        88 => why.at = why.at.min(LAST_INSTANT),
+        89 if why.at > LAST_INSTANT => return boundary::Reason::default(),
+        // A state that was overbooked before, told as one out of order or without
+        // what it owes.
+        90 if before() => {
+            return boundary::Reason {
+                refusal: 13,
+                ..boundary::Reason::default()
+            }
+        }
+        91 if before() => {
+            return boundary::Reason {
+                refusal: 6,
+                ..boundary::Reason::default()
+            }
+        }
+        _ => (),
+    }
+    why
+}
+
+/// Wrong by this fault where the number comes alone: with something beside it, or
+/// another number.
+fn faulty_number_alone(
+    fault: u32,
+    desk: State,
+    work: u32,
+    right: boundary::Reason,
+) -> boundary::Reason {
+    let mut why = right;
+    match (fault, why.refusal) {
+        (100, 13) | (101, 1..=5) => why.at = desk.clock,
+        (102, 13) | (103, 1..=5) => why.margin = -1,
+        (104, _) => why.job = work.into(),
+        (105, 13) => why.refusal = 6,
+        (106, 4) => why.refusal = 5,
+        (107, 5) => why.refusal = 6,
+        (108, 3) => why.refusal = 6,
+        _ => (),
+    }
+    why
+}
+
 #[test]
 fn each_planted_fault_is_found() {
-    assert!(calls::compare(&Faulty(0), 6, 2_000).is_ok());
+    assert!(calls::compare(&Faulty(0), 2, 2_000).is_ok());
     for fault in (1..=25).chain(30..=40) {
         assert!(
-            calls::compare(&Faulty(fault), 6, 20_000).is_err(),
+            calls::compare(&Faulty(fault), 2, 20_000).is_err(),
             "fault {fault} went by"
         );
     }
 }
 
+#[test]
+fn each_planted_fault_of_a_reason_is_found() {
+    for fault in (50..=66).chain(70..=91).chain(100..=108) {
+        match calls::compare(&Faulty(fault), 2, 20_000) {
+            Ok(_) => panic!("fault {fault} went by"),
+            Err(difference) => assert!(difference.contains("Why {"), "fault {fault}"),
+        }
+    }
+}
+
 /// Notes what came: the lengths of fronts, the counts in them, by how much a
-/// file's length was off, the works taken, and how often a state was overbooked.
+/// file's length was off, the works taken, and how often a state was overbooked;
+/// and which kinds of reason, by number.
 #[derive(Default)]
 struct Watching {
     lent: RefCell<BTreeSet<usize>>,
@@ -1281,6 +1447,95 @@ struct Watching {
     off: RefCell<BTreeSet<i128>>,
     taken: RefCell<BTreeSet<u64>>,
     overbooked: Cell<u32>,
+    reasons: RefCell<BTreeSet<(u32, &'static str)>>,
+}
+
+impl Watching {
+    fn note_reason(&self, state: &Desk, lead: u64, why: &boundary::Reason) {
+        let at = why.at;
+        let own = state.clock + lead;
+        let last_job = state.jobs.iter().map(|job| job.deadline).max();
+        let far = state.clock + JOB_LENGTH_MOST;
+        let parts = [why.jobs, why.feeds, why.job];
+        let kinds = [
+            ("past the clock's last instant", at > LAST_INSTANT),
+            ("at the first instant", at == state.clock + 1),
+            ("before its deadline", at < own),
+            ("at its deadline", at == own),
+            ("after its deadline", at > own),
+            (
+                "at a job's",
+                state.jobs.iter().any(|job| job.deadline == at),
+            ),
+            ("after every job", Some(at) > last_job && at > own),
+            ("after the longest lead", at > far),
+            ("margin 1", why.margin == 1),
+            ("margin 0", why.margin == 0),
+            ("margin -1", why.margin == -1),
+            ("margin below -1", why.margin < -1),
+            ("all three owe", parts.iter().all(|owed| *owed > 0)),
+            ("jobs owe nothing", why.jobs == 0),
+            ("feeds owe nothing", why.feeds == 0),
+            ("the new job owes nothing", why.job == 0),
+        ];
+        let mut reasons = self.reasons.borrow_mut();
+        for (kind, _) in kinds.iter().filter(|(_, holds)| *holds) {
+            reasons.insert((why.refusal, *kind));
+        }
+    }
+
+    fn saw_every_kind_of_mesh(&self) {
+        assert!(self.lent.borrow().iter().copied().eq(0..=100));
+        let counts = self.counts.borrow();
+        for (from, to, _) in BANDS {
+            assert!(counts.contains(&from) && counts.contains(&to), "{from}");
+        }
+        assert!(counts.contains(&0));
+        let off = self.off.borrow();
+        for by in [0, 1, -1, 50, -50, 1 << 32, 1 << 63] {
+            assert!(off.contains(&by), "off by {by} never came");
+        }
+        let works = BANDS.iter().map(|band| u64::from(band.2));
+        assert!(self.taken.borrow().iter().copied().eq(works));
+        assert!(self.overbooked.get() > 10);
+    }
+
+    /// The margin of a request that would be taken is 0 or 1: at the first instant
+    /// it is no more.
+    fn saw_every_kind_of_reason(&self) {
+        let places = [
+            "past the clock's last instant",
+            "at the first instant",
+            "before its deadline",
+            "at its deadline",
+            "after its deadline",
+            "at a job's",
+            "after every job",
+            "after the longest lead",
+        ];
+        let taken = ["margin 1", "margin 0"];
+        let refused = [
+            "margin -1",
+            "margin below -1",
+            "all three owe",
+            "jobs owe nothing",
+            "feeds owe nothing",
+            "the new job owes nothing",
+        ];
+        let both = [0, 6]
+            .into_iter()
+            .flat_map(|number| places.map(|kind| (number, kind)));
+        let wanted = both
+            .chain(taken.map(|kind| (0, kind)))
+            .chain(refused.map(|kind| (6, kind)));
+        let reasons = self.reasons.borrow();
+        for (number, kind) in wanted {
+            assert!(
+                reasons.contains(&(number, kind)),
+                "{number} {kind} never came"
+            );
+        }
+    }
 }
 
 impl Library for Watching {
@@ -1313,7 +1568,11 @@ impl Library for Watching {
         answer
     }
     fn why(&self, desk: State, number: u32, work: u32, lead: u32) -> boundary::Reason {
-        Own.why(desk, number, work, lead)
+        let why = Own.why(desk, number, work, lead);
+        if [0, 6].contains(&why.refusal) {
+            self.note_reason(&read(&desk).unwrap(), lead.into(), &why);
+        }
+        why
     }
     fn step(&self, desk: State) -> Stepped {
         Own.step(desk)
@@ -1332,21 +1591,30 @@ impl Library for Watching {
     }
 }
 
+/// A right library passes, and on the way every call gives every number it can.
 #[test]
-fn every_kind_of_mesh_comes() {
+fn a_right_library_passes() {
     let watching = Watching::default();
-    calls::compare(&watching, 7, 30_000).unwrap();
-    assert!(watching.lent.borrow().iter().copied().eq(0..=100));
-    let counts = watching.counts.borrow();
-    for (from, to, _) in BANDS {
-        assert!(counts.contains(&from) && counts.contains(&to), "{from}");
+    let tally = calls::compare(&watching, 7, 30_000).unwrap();
+    let refusals = [
+        ("open", vec![0, 2, 3, 8, 9, 10, 12]),
+        ("ask", vec![0, 1, 2, 3, 4, 5, 6, 13]),
+        ("mesh", vec![0, 1, 2, 3, 4, 5, 6, 13, 15, 16, 17]),
+        ("why", vec![0, 1, 2, 3, 4, 5, 6, 13]),
+        ("step", vec![0, 3, 13]),
+        ("end", vec![0, 7, 13]),
+        ("rest", vec![0, 7, 13]),
+        ("list", vec![0, 11, 13]),
+        ("label", vec![0, 101, 102]),
+    ];
+    for (call, numbers) in refusals {
+        for number in numbers {
+            assert!(
+                tally.contains_key(&(call, number)),
+                "{call} {number} never came"
+            );
+        }
     }
-    assert!(counts.contains(&0));
-    let off = watching.off.borrow();
-    for by in [0, 1, -1, 50, -50, 1 << 32, 1 << 63] {
-        assert!(off.contains(&by), "off by {by} never came");
-    }
-    let works = BANDS.iter().map(|band| u64::from(band.2));
-    assert!(watching.taken.borrow().iter().copied().eq(works));
-    assert!(watching.overbooked.get() > 10);
+    watching.saw_every_kind_of_mesh();
+    watching.saw_every_kind_of_reason();
 }
