@@ -78,6 +78,21 @@ typedef struct DeskAnswer {
     uint32_t refusal;
 } DeskAnswer;
 
+/* Why a request is refused, or how near it comes to that. `refusal` is what asking would give. For 6, `at` is the
+ * earliest instant at which more is owed than there is time; `jobs`, `feeds` and `job` are what the live jobs, the
+ * feeds and the new job owe by then, and `margin` is the time until then less all of that, below zero. For a request
+ * that would be taken, `margin` is the smallest one over all instants after the clock, `at` the earliest instant that
+ * has it, and the three parts are 0. For any other refusal all five are 0. Either instant may lie past the clock's
+ * last. */
+typedef struct DeskReason {
+    uint32_t refusal;
+    uint64_t at;
+    uint64_t jobs;
+    uint64_t feeds;
+    uint64_t job;
+    int64_t margin;
+} DeskReason;
+
 /* Whom a tick went to. */
 enum { DESK_IDLE = 0, DESK_JOB = 1, DESK_FEED = 2 };
 
@@ -115,6 +130,9 @@ DeskAnswer desk_ask(Desk desk, uint32_t number, uint32_t work, uint32_t lead);
  * more, and `size` the length of the whole file. The work goes by the triangle count that stands there: to 9,999 it is
  * 4 ticks, to 99,999 16, to 999,999 120, to 9,999,999 900, to 99,999,999 8,000, and above that 65,536. */
 DeskAnswer desk_ask_mesh(Desk desk, const uint8_t *head, size_t lent, uint64_t size, uint32_t number, uint32_t lead);
+
+/* Tells why a job would be refused, or how near it comes to that; nothing is changed. */
+DeskReason desk_why(Desk desk, uint32_t number, uint32_t work, uint32_t lead);
 
 /* One step of one tick. */
 DeskStepped desk_step(Desk desk);

@@ -59,6 +59,12 @@ static void asking_with_mesh(Desk desk) {
     free(head);
 }
 
+static void telling_why(Desk desk) {
+    uint32_t number = get_number(), work = get_number(), lead = get_number();
+    DeskReason answer = desk_why(desk, number, work, lead);
+    put(&answer, sizeof answer);
+}
+
 static void stepping(Desk desk) {
     DeskStepped answer = desk_step(desk);
     put(&answer, sizeof answer);
@@ -98,6 +104,7 @@ int main(void) {
         case CALL_LIST: listing(desk); break;
         case CALL_LABEL: labelling(desk); break;
         case CALL_ASK_MESH: asking_with_mesh(desk); break;
+        case CALL_WHY: telling_why(desk); break;
         default: exit(1);
         }
         fflush(stdout);

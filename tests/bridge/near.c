@@ -95,6 +95,16 @@ DeskAnswer desk_ask_mesh(Desk desk, const uint8_t *head, size_t lent, uint64_t s
     return asked;
 }
 
+DeskReason desk_why(Desk desk, uint32_t number, uint32_t work, uint32_t lead) {
+    DeskReason reason;
+    call(CALL_WHY, &desk);
+    put(&number, sizeof number);
+    put(&work, sizeof work);
+    put(&lead, sizeof lead);
+    answer(&reason, sizeof reason);
+    return reason;
+}
+
 DeskStepped desk_step(Desk desk) {
     DeskStepped stepped;
     call(CALL_STEP, &desk);
