@@ -1,4 +1,4 @@
-/* A desk from C: opens with two feeds, asks, rests, steps and lists, and asks with a mesh file. */
+/* A desk from C: opens with two feeds, asks and asks why, rests, steps and lists, and asks with a mesh file. */
 #include "desk.h"
 
 #include <stdio.h>
@@ -13,6 +13,16 @@ static Desk told(uint32_t number, DeskAnswer answer) {
 
 static Desk asked(Desk desk, uint32_t number, uint32_t work, uint32_t lead) {
     return told(number, desk_ask(desk, number, work, lead));
+}
+
+static void asked_why(Desk desk, uint32_t number, uint32_t work, uint32_t lead) {
+    DeskReason why = desk_why(desk, number, work, lead);
+    if (why.refusal == DESK_YES)
+        printf("why job %u: yes, margin %lld at %llu\n", number, (long long)why.margin, (unsigned long long)why.at);
+    else
+        printf("why job %u: no %u, by %llu jobs owe %llu, feeds %llu, it %llu: margin %lld\n", number, why.refusal,
+               (unsigned long long)why.at, (unsigned long long)why.jobs, (unsigned long long)why.feeds,
+               (unsigned long long)why.job, (long long)why.margin);
 }
 
 /* The front of a file of 12,345 triangles (0x3039), behind an empty header. */
@@ -57,6 +67,8 @@ int main(void) {
     Desk desk = opened.desk;
     desk = asked(desk, 1, 3, 6);
     desk = asked(desk, 2, 1, 6);
+    asked_why(desk, 2, 1, 6);
+    asked_why(desk, 7, 1, 12);
     desk = asked(desk, 7, 1, 12);
     listed(desk);
     labelled(desk);

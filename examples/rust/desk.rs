@@ -48,6 +48,17 @@ pub struct Answer {
 
 #[derive(Clone, Copy)]
 #[repr(C)]
+pub struct Reason {
+    pub refusal: u32,
+    pub at: u64,
+    pub jobs: u64,
+    pub feeds: u64,
+    pub job: u64,
+    pub margin: i64,
+}
+
+#[derive(Clone, Copy)]
+#[repr(C)]
 pub struct Stepped {
     pub desk: Desk,
     pub refusal: u32,
@@ -76,6 +87,7 @@ extern "C" {
     fn desk_open(list: *const u32, length: usize, start: u64) -> Answer;
     fn desk_ask(desk: Desk, number: u32, work: u32, lead: u32) -> Answer;
     fn desk_ask_mesh(desk: Desk, head: *const u8, lent: usize, size: u64, number: u32, lead: u32) -> Answer;
+    fn desk_why(desk: Desk, number: u32, work: u32, lead: u32) -> Reason;
     fn desk_step(desk: Desk) -> Stepped;
     fn desk_end(desk: Desk, number: u32) -> Answer;
     fn desk_rest(desk: Desk, position: u32) -> Answer;
@@ -96,6 +108,10 @@ impl Desk {
 
     pub fn ask_mesh(self, head: &[u8], size: u64, number: u32, lead: u32) -> Answer {
         unsafe { desk_ask_mesh(self, head.as_ptr(), head.len(), size, number, lead) }
+    }
+
+    pub fn why(self, number: u32, work: u32, lead: u32) -> Reason {
+        unsafe { desk_why(self, number, work, lead) }
     }
 
     pub fn step(self) -> Stepped {

@@ -2,7 +2,7 @@
 
 mod desk;
 
-use desk::{Answer, Desk};
+use desk::{Answer, Desk, Reason};
 
 fn told(number: u32, answer: Answer) -> Desk {
     match answer.refusal {
@@ -14,6 +14,16 @@ fn told(number: u32, answer: Answer) -> Desk {
 
 fn asked(desk: Desk, number: u32, work: u32, lead: u32) -> Desk {
     told(number, desk.ask(number, work, lead))
+}
+
+fn asked_why(desk: Desk, number: u32, work: u32, lead: u32) {
+    let Reason { refusal, at, jobs, feeds, job, margin } = desk.why(number, work, lead);
+    match refusal {
+        0 => println!("why job {number}: yes, margin {margin} at {at}"),
+        _ => println!(
+            "why job {number}: no {refusal}, by {at} jobs owe {jobs}, feeds {feeds}, it {job}: margin {margin}"
+        ),
+    }
 }
 
 /// The front of a file of 12,345 triangles, behind an empty header.
@@ -54,6 +64,8 @@ fn main() {
     let mut desk = opened.desk;
     desk = asked(desk, 1, 3, 6);
     desk = asked(desk, 2, 1, 6);
+    asked_why(desk, 2, 1, 6);
+    asked_why(desk, 7, 1, 12);
     desk = asked(desk, 7, 1, 12);
     listed(desk);
     labelled(desk);
