@@ -2,9 +2,9 @@
 use mathlib.Core.Path.{_≡_, refl, sym, ap, _∙_}
 use mathlib.Core.Bool.{Bool, true, false, cond}
 use mathlib.Core.List.{List, [], _∷_}
-use Prim.Native.Nat.{ℕ, _+_, _-_, _≤_, _<_}
+use Prim.Native.Nat.{ℕ, suc, _+_, _-_, _≤_, _<_}
 use native.Mathlib.Nat.{le-refl}
-use native.Mathlib.Decide.{decLt}
+use native.Mathlib.Decide.{decLe, decLt}
 use native.Mathlib.Omega.{arith}
 use Rattle.lists.specs.Lists.{total}
 use Rattle.lists.proofs.Tests.{ltb-elim}
@@ -17,13 +17,13 @@ use Rattle.edf.specs.Owed.{owedBy, Room, RoomBelow}
 use Rattle.edf.specs.Order.{InOrder as BookInOrder}
 use Rattle.edf.proofs.Demand.{byThen-in, byThen-out}
 use Rattle.edf.proofs.Sound.{owedBy-past}
-use Rattle.edf.proofs.Horizon.{room-within-horizon}
+use Rattle.edf.proofs.Horizon.{room-jumps, room-within-horizon}
 use Rattle.edf.proofs.Equality.{fits-iff-room}
 use Rattle.ledger.specs.Reading.{bookOf}
 use Rattle.ledger.specs.InOrder.{InOrder}
 use Rattle.ledger.proofs.InOrder.{book-in-order, book-light, book-round}
 use Rattle.room.specs.Owed.{jobOwes, earlier, lastDue, horizonOf}
-use Rattle.room.specs.Walk.{Until, RoomSays, FitsSays}
+use Rattle.room.specs.Walk.{Until, RoomFrom, RoomSays, FitsSays}
 use Rattle.room.proofs.Owed.{last-beyond}
 
 -- what stays as it is up to one instant stays so up to the earlier of it and another
@@ -79,19 +79,24 @@ module _ {A : Type 0} (f : ℕ → A → ℕ) (by : ℕ) (xs : List A) where
         still = λ E p q. omega (arith, s E p q, ap (total (f E)) e, ap (total (f by)) e);
       }
 
--- nothing lies between the clock and itself
-pub room-first : (b : Book) → RoomBelow (b .clock) b
-unfolding RoomBelow
-room-first b D h k = absurd (omega arith)
+-- nothing lies between the horizon and itself
+pub room-last : (b : Book) (H : ℕ) → RoomFrom H H b
+unfolding RoomFrom
+room-last b H D c h k = absurd (omega arith)
 
--- room by one due instant is room up to the next
-pub room-next : (b : Book) (by till r : ℕ) → b .clock ≤ by → owedBy b by ≤ by - b .clock → Until (owedBy b) by till r → RoomBelow by b → RoomBelow r b
-unfolding RoomBelow
-room-next b by till r c h u near D k l = go (decLt D by)
+-- room by one instant is room from the clock and what is owed by then on
+pub room-back : (b : Book) (by H : ℕ) → owedBy b by ≤ by - b .clock → RoomFrom (suc by) H b → RoomFrom (b .clock + owedBy b by) H b
+unfolding RoomFrom
+room-back b by H h far D c k l = go (decLe D by)
   where
-    go : Dec (D < by) → owedBy b D ≤ D - b .clock
-    go (yes p) = near D k p
-    go (no p) = omega (arith, u .still D (omega arith) l)
+    go : Dec (D ≤ by) → owedBy b D ≤ D - b .clock
+    go (yes p) = room-jumps b by D k p
+    go (no p) = far D c (omega arith) l
+
+-- room from the instant after the clock on is room by all
+pub room-all : (b : Book) (end H : ℕ) → end ≤ suc (b .clock) → RoomFrom end H b → RoomBelow H b
+unfolding RoomFrom RoomBelow
+room-all b end H h far D k l = far D k (omega arith) l
 
 -- more is owed by an instant than there is time
 pub room-stops : (b : Book) (by H : ℕ) → BookInOrder b → b .clock ≤ by → by < H → by - b .clock < owedBy b by → RoomBelow H b → ⊥
@@ -101,10 +106,6 @@ room-stops b by H o c h k near = go (decLt (b .clock) by)
     go : Dec (b .clock < by) → ⊥
     go (yes p) = omega (arith, near by p h)
     go (no p) = omega (arith, owedBy-past b by o (omega arith))
-
-pub room-shrinks : (b : Book) (by H : ℕ) → H ≤ by → RoomBelow by b → RoomBelow H b
-unfolding RoomBelow
-room-shrinks b by H h near D k l = near D k (omega arith)
 
 -- LINE 6: room below the horizon is what fits means, in both directions
 pub fits-says : (clock : Instant) (fs : List Feed) (js : List Job) (r : Bool) → InOrder clock fs js

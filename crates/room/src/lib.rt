@@ -197,18 +197,21 @@ pub fn horizon(clock: Instant, feeds: Feeds, table: Table) -> Instant
     last.plus(feeds.round())
 }
 
-// The walk: up from the clock over the instants at which something is due. In between nothing more is owed while the time
-// grows, so only there can there be too little of it.
+// The walk: back from the horizon, since a request that does not fit nearly always fails late. Where the work owed by an
+// instant can be done by then, it can be done by every instant from the clock and that work on, as no more is owed by an
+// earlier one; so the walk goes on before those.
 fn room_below(clock: Instant, feeds: Feeds, table: Table, horizon: Instant) -> bool
     requires { ⌜ Ordered clock feeds table × Reach clock horizon × (clock .0 ≤ horizon .0) ⌝ }
     ensures { λ r. ⌜ RoomSays r (horizon .0) (bookOf clock (liveFeeds feeds) (liveJobs table)) ⌝ }
 {
-    let mut by = clock;
-    while by.0 < horizon.0 {
-        if by.less(clock).0 < owed_by(clock, feeds, table, by).0 {
+    let mut end = horizon;
+    while clock.0 + 1 < end.0 {
+        let by = Instant(end.0 - 1);
+        let owed = owed_by(clock, feeds, table, by);
+        if by.less(clock).0 < owed.0 {
             return false;
         }
-        by = next_due(clock, feeds, table, by, horizon);
+        end = clock.plus(owed);
     }
     true
 }
