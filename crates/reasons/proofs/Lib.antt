@@ -1,3 +1,4 @@
+pub mod Due
 pub mod Walk
 pub mod Parts
 pub mod Fits

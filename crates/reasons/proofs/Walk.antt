@@ -20,7 +20,7 @@ use Rattle.ledger.specs.Reading.{bookOf}
 use Rattle.ledger.specs.InOrder.{InOrder}
 use Rattle.ledger.proofs.InOrder.{book-in-order, book-round}
 use Rattle.room.specs.Owed.{lastDue, horizonOf}
-use Rattle.room.specs.Walk.{Until}
+use Rattle.reasons.specs.Due.{Until}
 use Rattle.room.proofs.Owed.{last-beyond}
 use Rattle.reasons.specs.declared.Debt.{Debt}
 use Rattle.reasons.specs.Reasons.{debtBy, tighter}

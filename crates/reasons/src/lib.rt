@@ -15,6 +15,8 @@ ghost use Rattle.ledger.specs.Reading.{bookOf};
 ghost use Rattle.room.specs.Owed.{Ordered, Modest, Reach};
 ghost use Rattle.reasons.specs.Reasons.{debtBy, tighter, Tells, reasonAt};
 
+mod due;
+
 // An instant, and what is owed by then.
 pub struct Debt {
     pub at: Instant,
@@ -57,7 +59,7 @@ pub fn tightest(clock: Instant, feeds: Feeds, table: Table) -> Debt
             return next;
         }
         best = tighter(best, next);
-        by = room::next_due(clock, feeds, table, by, end);
+        by = due::next_due(clock, feeds, table, by, end);
     }
     best
 }

@@ -62,10 +62,6 @@ pub record Reach (clock by : Instant) : Type 0 where
 abbrev pub later : ℕ → ℕ → ℕ
 later a b = cond (ltb a b) b a
 
--- the earlier of two instants
-abbrev pub earlier : ℕ → ℕ → ℕ
-earlier a b = cond (ltb b a) b a
-
 -- the last of these instants and of what the list has
 unfoldable pub lastOf : {A : Type 0} → (A → ℕ) → List A → ℕ → ℕ
 lastOf f [] from = from

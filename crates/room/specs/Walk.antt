@@ -1,16 +1,10 @@
--- What the walk over the due instants finds.
+-- What the walk back from the horizon finds.
 use mathlib.Core.Path.{_≡_}
 use mathlib.Core.Bool.{Bool, true, false}
 use Prim.Native.Nat.{ℕ, _-_, _≤_, _<_}
 use Rattle.edf.specs.Book.{Book}
 use Rattle.edf.specs.Fits.{Fits}
 use Rattle.edf.specs.Owed.{owedBy, RoomBelow}
-
--- r comes after `by` and no later than `till`, and from `by` up to r nothing comes due: what is owed stays as it is
-pub record Until (owed : ℕ → ℕ) (by till r : ℕ) : Type 0 where
-  pub after : by < r
-  pub within : r ≤ till
-  pub still : (E : ℕ) → by ≤ E → E < r → owed E ≡ owed by
 
 -- there is room by every instant from `end` on that lies below the horizon
 unfoldable pub RoomFrom : ℕ → ℕ → Book → Type 0

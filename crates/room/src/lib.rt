@@ -16,8 +16,8 @@ ghost use Rattle.jobs.specs.Jobs.{mostJobs, live as liveJobs};
 ghost use Rattle.edf.specs.Owed.{owedBy};
 ghost use Rattle.ledger.specs.Reading.{bookOf};
 ghost use Rattle.room.specs.Owed.{Ordered, jobOwes, Modest, firstDue, feedOwes, FeedOrdered, mostOfFeed, Reach};
-ghost use Rattle.room.specs.Owed.{later, earlier, lastOf, horizonOf};
-ghost use Rattle.room.specs.Walk.{Until, RoomSays, FitsSays};
+ghost use Rattle.room.specs.Owed.{later, lastOf, horizonOf};
+ghost use Rattle.room.specs.Walk.{RoomSays, FitsSays};
 
 // A job counts from its deadline on.
 pub fn job_owes(job: Job, by: Instant) -> u64
@@ -43,7 +43,7 @@ pub fn jobs_owe(table: Table, by: Instant) -> u64
 }
 
 // When the current piece is due: its feed's next piece comes then.
-fn first_due(feed: Feed, clock: Instant) -> Instant
+pub fn first_due(feed: Feed, clock: Instant) -> Instant
     requires { ⌜ FeedIn feed × (clock .0 ≤ lastInstant) ⌝ }
     ensures { λ r. ⌜ r ≡ instant (firstDue (clock .0) feed) ⌝ }
 {
@@ -83,73 +83,6 @@ pub fn owed_by(clock: Instant, feeds: Feeds, table: Table, by: Instant) -> Lengt
     ensures { λ r. ⌜ r ≡ ticks (owedBy (bookOf clock (liveFeeds feeds) (liveJobs table)) (by .0)) ⌝ }
 {
     Length(jobs_owe(table, by) + feeds_owe(feeds, clock, by))
-}
-
-fn earlier(one: Instant, other: Instant) -> Instant
-    ensures { λ r. ⌜ r ≡ instant (earlier (one .0) (other .0)) ⌝ }
-{
-    if other.0 < one.0 {
-        return other;
-    }
-    one
-}
-
-// The deadline of a job that is not due yet.
-fn job_due_after(job: Job, by: Instant, till: Instant) -> Instant
-    requires { ⌜ by .0 < till .0 ⌝ }
-    ensures { λ r. ⌜ Until (λ D. jobOwes D job) (by .0) (till .0) (r .0) ⌝ }
-{
-    if by.0 < job.deadline.0 {
-        return earlier(job.deadline, till);
-    }
-    till
-}
-
-// The next deadline of the jobs.
-fn jobs_due_after(table: Table, by: Instant, till: Instant) -> Instant
-    requires { ⌜ (table .count ≤ mostJobs) × (by .0 < till .0) ⌝ }
-    ensures { λ r. ⌜ Until (λ D. total (jobOwes D) (liveJobs table)) (by .0) (till .0) (r .0) ⌝ }
-{
-    let count = table.count;
-    let mut next = till;
-    for i in 0..count {
-        next = job_due_after(table.jobs[i], by, next);
-    }
-    next
-}
-
-// The next deadline of a feed's pieces: they lie a period apart.
-fn feed_due_after(feed: Feed, clock: Instant, by: Instant, till: Instant) -> Instant
-    requires { ⌜ FeedIn feed × Reach clock by × (by .0 < till .0) ⌝ }
-    ensures { λ r. ⌜ Until (λ D. feedOwes (clock .0) D feed) (by .0) (till .0) (r .0) ⌝ }
-{
-    let due = first_due(feed, clock);
-    if by.0 < due.0 {
-        return earlier(due, till);
-    }
-    let gone = by.less(due).0 % feed.period.0;
-    earlier(by.plus(Length(feed.period.0 - gone)), till)
-}
-
-// The next deadline of the feeds' pieces.
-fn feeds_due_after(feeds: Feeds, clock: Instant, by: Instant, till: Instant) -> Instant
-    requires { ⌜ (feeds .count ≤ mostFeeds) × Each (FeedOrdered clock) (liveFeeds feeds) × Reach clock by × (by .0 < till .0) ⌝ }
-    ensures { λ r. ⌜ Until (λ D. total (feedOwes (clock .0) D) (liveFeeds feeds)) (by .0) (till .0) (r .0) ⌝ }
-{
-    let count = feeds.count;
-    let mut next = till;
-    for i in 0..count {
-        next = feed_due_after(feeds.feeds[i], clock, by, next);
-    }
-    next
-}
-
-// The next instant at which something is due, or the last that is of interest.
-pub fn next_due(clock: Instant, feeds: Feeds, table: Table, by: Instant, till: Instant) -> Instant
-    requires { ⌜ Ordered clock feeds table × Reach clock by × (by .0 < till .0) ⌝ }
-    ensures { λ r. ⌜ Until (owedBy (bookOf clock (liveFeeds feeds) (liveJobs table))) (by .0) (till .0) (r .0) ⌝ }
-{
-    feeds_due_after(feeds, clock, by, jobs_due_after(table, by, till))
 }
 
 fn later(one: Instant, other: Instant) -> Instant

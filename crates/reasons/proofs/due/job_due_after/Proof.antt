@@ -1,10 +1,10 @@
--- `room::job_due_after` meets its contract, by whether the deadline has come. Assumes nothing.
+-- `reasons::due::job_due_after` meets its contract, by whether the deadline has come. Assumes nothing.
 use native.Mathlib.Nat.{le-refl}
 use borrow.Author.Needs.{needs}
 use Rattle.room.specs.Owed.{jobOwes}
-use Rattle.room.proofs.Walk.{until-cut, job-still-past, job-still-before}
-use Rattle.room.proofs.job_due_after.Statement.{statement}
-use Rattle.room.proofs.job_due_after.Tie as tie
+use Rattle.reasons.proofs.Due.{until-cut, job-still-past, job-still-before}
+use Rattle.reasons.proofs.due.job_due_after.Statement.{statement}
+use Rattle.reasons.proofs.due.job_due_after.Tie as tie
 
 earlier-requires : tie.Need-earlier-requires
 earlier-requires c κs = search needs

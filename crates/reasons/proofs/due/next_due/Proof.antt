@@ -1,4 +1,4 @@
--- `room::next_due` meets its contract: nothing of the jobs and nothing of the feeds comes due in between.
+-- `reasons::due::next_due` meets its contract: nothing of the jobs and nothing of the feeds comes due in between.
 -- Assumes nothing.
 use Rattle.lists.specs.Lists.{total}
 use Rattle.lists.proofs.Lists.{each-both}
@@ -7,11 +7,11 @@ use Rattle.jobs.specs.Jobs.{live as liveJobs}
 use Rattle.edf.specs.Owed.{owedBy}
 use Rattle.ledger.specs.Pieces.{PieceIn}
 use Rattle.ledger.specs.Reading.{bookOf}
 use Rattle.room.specs.Owed.{jobOwes, feedOwes}
 use Rattle.room.proofs.Owed.{owed-by-is}
-use Rattle.room.proofs.Walk.{until-both}
-use Rattle.room.proofs.next_due.Statement.{statement}
-use Rattle.room.proofs.next_due.Tie as tie
+use Rattle.reasons.proofs.Due.{until-both}
+use Rattle.reasons.proofs.due.next_due.Statement.{statement}
+use Rattle.reasons.proofs.due.next_due.Tie as tie
 
 jobs-due-after-requires : tie.Need-jobs-due-after-requires
 jobs-due-after-requires c κs = (c .pre .0 .fewJobs, c .pre .2)

@@ -1,4 +1,4 @@
--- `room::jobs_due_after` meets its contract: up to the instant found so far nothing comes due, but for the jobs that are
+-- `reasons::due::jobs_due_after` meets its contract: up to the instant found so far nothing comes due, but for the jobs that are
 -- left to look at. Assumes nothing.
 use mathlib.Core.Path.{_≡_}
 use Prim.Native.Nat.{_-_, _≤_, _<_}
@@ -8,10 +8,10 @@ use borrow.Author.Needs.{needs}
 use lib.ListN.{length, drop}
 use Rattle.lists.proofs.Places.{length-mapped, next-live, no-more-live}
 use Rattle.jobs.specs.Jobs.{live, noJob}
 use Rattle.room.specs.Owed.{jobOwes}
-use Rattle.room.proofs.Walk.{StillBut, still-first, still-next, still-last}
-use Rattle.room.proofs.jobs_due_after.Statement.{statement}
-use Rattle.room.proofs.jobs_due_after.Tie as tie
+use Rattle.reasons.proofs.Due.{StillBut, still-first, still-next, still-last}
+use Rattle.reasons.proofs.due.jobs_due_after.Statement.{statement}
+use Rattle.reasons.proofs.due.jobs_due_after.Tie as tie
 
 abbrev Inv-loop : tie.InvT-loop
 Inv-loop by table count next₀ i₀ next i = (i ≤ count) × (by .0 < next .0) × (next .0 ≤ next₀ .0) × StillBut jobOwes (by .0) (live table) (next .0) (drop i (live table))

@@ -1,14 +1,14 @@
--- `room::feed_due_after` meets its contract, by whether the first deadline has come. Assumes nothing.
+-- `reasons::due::feed_due_after` meets its contract, by whether the first deadline has come. Assumes nothing.
 use mathlib.Core.Path.{_≡_, ap, _∙_}
 use Prim.Native.Nat.{_+_, _-_, _%_, _≤_}
 use native.Mathlib.Nat.{le-of-lt, mod-lt}
 use native.Mathlib.Omega.{arith}
 use borrow.Author.Needs.{needs}
 use Rattle.room.specs.Owed.{firstDue, feedOwes}
 use Rattle.room.proofs.Owed.{feed-still-before, feed-still-from}
-use Rattle.room.proofs.Walk.{until-cut}
-use Rattle.room.proofs.feed_due_after.Statement.{statement}
-use Rattle.room.proofs.feed_due_after.Tie as tie
+use Rattle.reasons.proofs.Due.{until-cut}
+use Rattle.reasons.proofs.due.feed_due_after.Statement.{statement}
+use Rattle.reasons.proofs.due.feed_due_after.Tie as tie
 
 first-due-requires : tie.Need-first-due-requires
 first-due-requires c κs = (c .pre .0, c .pre .1 .inside)

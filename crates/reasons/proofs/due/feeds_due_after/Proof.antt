@@ -1,4 +1,4 @@
--- `room::feeds_due_after` meets its contract: up to the instant found so far nothing comes due, but for the feeds that are
+-- `reasons::due::feeds_due_after` meets its contract: up to the instant found so far nothing comes due, but for the feeds that are
 -- left to look at. Assumes nothing.
 use mathlib.Core.Path.{_≡_}
 use Prim.Native.Nat.{_-_, _≤_, _<_}
@@ -8,10 +8,10 @@ use borrow.Author.Needs.{needs}
 use lib.ListN.{length, drop}
 use Rattle.lists.proofs.Places.{length-mapped, next-live, no-more-live, each-live}
 use Rattle.feeds.specs.Feeds.{live, noFeed}
 use Rattle.room.specs.Owed.{feedOwes, FeedOrdered}
-use Rattle.room.proofs.Walk.{StillBut, still-first, still-next, still-last}
-use Rattle.room.proofs.feeds_due_after.Statement.{statement}
-use Rattle.room.proofs.feeds_due_after.Tie as tie
+use Rattle.reasons.proofs.Due.{StillBut, still-first, still-next, still-last}
+use Rattle.reasons.proofs.due.feeds_due_after.Statement.{statement}
+use Rattle.reasons.proofs.due.feeds_due_after.Tie as tie
 
 abbrev Inv-loop : tie.InvT-loop
 Inv-loop clock by feeds count next₀ i₀ next i = (i ≤ count) × (by .0 < next .0) × (next .0 ≤ next₀ .0) × StillBut (feedOwes (clock .0)) (by .0) (live feeds) (next .0) (drop i (live feeds))

@@ -1,7 +1,7 @@
--- `room::earlier` meets its contract, by the test. Assumes nothing.
+-- `reasons::due::earlier` meets its contract, by the test. Assumes nothing.
 use borrow.Author.Tests.{lt-ltb, le-ltb}
-use Rattle.room.proofs.earlier.Statement.{statement}
-use Rattle.room.proofs.earlier.Tie as tie
+use Rattle.reasons.proofs.due.earlier.Statement.{statement}
+use Rattle.reasons.proofs.due.earlier.Tie as tie
 
 returns : tie.Need-returns
 returns c = simp (lt-ltb _ _ (c .if1 .taken))
