@@ -216,6 +216,9 @@ impl Walk<'_> {
             if self.random.chance(10) {
                 self.reasons_on_a_moved_copy(desk)?;
             }
+            if self.random.chance(3) {
+                self.reasons_far_ahead(desk.clock)?;
+            }
         }
         Ok(())
     }
@@ -369,6 +372,45 @@ impl Walk<'_> {
             let work = invent::work(random, &state, number, lead) as u32;
             let lead = lead as u32;
             self.call(moved, Call::Why { number, work, lead })?;
+        }
+        Ok(())
+    }
+
+    /// One feed of the longest round that leaves little or nothing over, and the
+    /// longest lead. If a piece is due shortly before that ends, it is the next
+    /// one, a round later, that decides.
+    fn reasons_far_ahead(&mut self, clock: u64) -> Result<(), String> {
+        let random = &mut self.random;
+        let clock = clock.min(LAST_INSTANT - 65_536);
+        let clock = random.pick(&[clock, LAST_INSTANT - 65_536]);
+        let due = clock + 65_536 - random.pick(&[0, 1, 1, 1, 2, 50, 5_000, 40_000]);
+        let (period, offset) = (40_320, due % 40_320);
+        let work = period - random.pick(&[0, 0, 0, 1, 100]);
+        let owes = match random.below(4) {
+            0 if clock >= offset => random.below(work + 1),
+            _ => 0,
+        };
+        let feed = model::Feed {
+            period,
+            work,
+            offset,
+            owes,
+        };
+        let state = model::Desk {
+            clock,
+            feeds: vec![feed],
+            jobs: Vec::new(),
+        };
+        debug_assert!(state.in_order());
+        for _ in 0..self.random.between(1, 4) {
+            let lead = self.random.pick(&[65_536, 65_536, 65_536, 65_535, 30_000]);
+            let work = invent::work(&mut self.random, &state, 1, lead);
+            let why = Call::Why {
+                number: 1,
+                work: work as u32,
+                lead: lead as u32,
+            };
+            self.call(write(&state), why)?;
         }
         Ok(())
     }

@@ -466,6 +466,20 @@ fn a_reason_long_after_the_last_job() {
     }
 }
 
+/// The last instant that can decide, by the comment in `reason`: one before M + R.
+/// A piece is due one instant before the job and the next one a round later.
+#[test]
+fn a_reason_as_late_as_can_be() {
+    for start in [0, 12_345, LAST_INSTANT - 65_536] {
+        let offset = (start + 65_535) % 40_320;
+        let desk = open(&[40_320, 40_320, offset as u32], start).unwrap();
+        let at = start + 65_536 + 40_320 - 1;
+        assert_eq!(desk.why(1, 25_215, 65_536), tightest(0, at));
+        let why = desk.why(1, 25_216, 65_536);
+        assert_eq!(why, overbooked(at, 0, 80_640, 25_216, -1));
+    }
+}
+
 #[test]
 fn reasons_past_the_last_instant() {
     let desk = open(&[10, 10, 7], LAST_INSTANT - 2).unwrap();
@@ -1300,12 +1314,14 @@ fn faulty_tightest(
         }
         // Looking only to the clock's last instant.
         63 => return first_least(&mut all().take_while(|owed| owed.at <= LAST_INSTANT)),
+        // Looking not far enough.
+        64 => return first_least(&mut all().take(105_854)),
         // Without the first instant.
-        64 => return first_least(&mut all().skip(1)),
+        65 => return first_least(&mut all().skip(1)),
         // What the state owes without the new job.
-        65 => return first_least(&mut gone_through(&desk, 0, lead)),
+        66 => return first_least(&mut gone_through(&desk, 0, lead)),
         // The parts too.
-        66 => {
+        67 => {
             let owed = all().find(|owed| owed.at == why.at).unwrap();
             (why.jobs, why.feeds, why.job) = (owed.jobs, owed.feeds, owed.job);
         }
@@ -1375,15 +1391,17 @@ fn faulty_overbooked(
         // Instants after the clock's last one told as that one, or not looked at.
         88 => why.at = why.at.min(LAST_INSTANT),
         89 if why.at > LAST_INSTANT => return boundary::Reason::default(),
+        // Looking not far enough.
+        90 if why.at - desk.clock > 105_854 => return boundary::Reason::default(),
         // A state that was overbooked before, told as one out of order or without
         // what it owes.
-        90 if before() => {
+        91 if before() => {
             return boundary::Reason {
                 refusal: 13,
                 ..boundary::Reason::default()
             }
         }
-        91 if before() => {
+        92 if before() => {
             return boundary::Reason {
                 refusal: 6,
                 ..boundary::Reason::default()
@@ -1418,10 +1436,10 @@ fn faulty_number_alone(
 
 #[test]
 fn each_planted_fault_is_found() {
-    assert!(calls::compare(&Faulty(0), 2, 2_000).is_ok());
+    assert!(calls::compare(&Faulty(0), 5, 2_000).is_ok());
     for fault in (1..=25).chain(30..=40) {
         assert!(
-            calls::compare(&Faulty(fault), 2, 20_000).is_err(),
+            calls::compare(&Faulty(fault), 5, 20_000).is_err(),
             "fault {fault} went by"
         );
     }
@@ -1429,8 +1447,8 @@ fn each_planted_fault_is_found() {
 
 #[test]
 fn each_planted_fault_of_a_reason_is_found() {
-    for fault in (50..=66).chain(70..=91).chain(100..=108) {
-        match calls::compare(&Faulty(fault), 2, 20_000) {
+    for fault in (50..=67).chain(70..=92).chain(100..=108) {
+        match calls::compare(&Faulty(fault), 5, 20_000) {
             Ok(_) => panic!("fault {fault} went by"),
             Err(difference) => assert!(difference.contains("Why {"), "fault {fault}"),
         }
@@ -1469,6 +1487,7 @@ impl Watching {
             ),
             ("after every job", Some(at) > last_job && at > own),
             ("after the longest lead", at > far),
+            ("as late as can be", at == far + ROUND_MOST - 1),
             ("margin 1", why.margin == 1),
             ("margin 0", why.margin == 0),
             ("margin -1", why.margin == -1),
@@ -1512,6 +1531,7 @@ impl Watching {
             "at a job's",
             "after every job",
             "after the longest lead",
+            "as late as can be",
         ];
         let taken = ["margin 1", "margin 0"];
         let refused = [
