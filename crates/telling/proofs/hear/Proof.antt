@@ -8,15 +8,15 @@ use Rattle.rehearsal.proofs.Session.read.Reads as read-reads
 use Rattle.telling.proofs.run.Reads as run-reads
 use Rattle.telling.proofs.tell.Reads as tell-reads
 
--- src/lib.rt:71:9
+-- src/lib.rt:67:9
 read-requires : tie.Need-read-requires
 read-requires c κs = search needs
 
--- src/lib.rt:76:9
+-- src/lib.rt:72:9
 tell-requires : tie.Need-tell-requires
 tell-requires c κs = search needs
 
--- src/lib.rt:77:9
+-- src/lib.rt:73:9
 run-requires : tie.Need-run-requires
 run-requires c κs =
     let g = c .before .before .before .before .before .before .before .before .before .before .before .args .going in
@@ -26,11 +26,11 @@ run-requires c κs =
       large = search needs;
     }
 
--- src/lib.rt:66:1
+-- src/lib.rt:62:1
 same-length : tie.Need-same-length
 same-length c = search needs
 
--- src/lib.rt:66:1
+-- src/lib.rt:62:1
 returns : tie.Need-returns
 returns c =
     let g = c .before .before .before .before .before .before .before .before .before .before .before .before .before .before .before .args .going in

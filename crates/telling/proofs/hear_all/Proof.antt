@@ -24,11 +24,11 @@ Inv-loop input out₀ going₀ out going =
 abbrev μ-loop : tie.MeasureT-loop
 μ-loop input out₀ going₀ out going = length input - going .place .from
 
--- src/lib.rt:89:18
+-- src/lib.rt:86:18
 begin-requires : tie.Need-begin-requires Inv-loop μ-loop
 begin-requires c κs = search needs
 
--- src/lib.rt:96:5
+-- src/lib.rt:90:5
 loop-holds : tie.Need-loop-holds Inv-loop μ-loop
 loop-holds c = (
   refl,
@@ -37,39 +37,39 @@ loop-holds c = (
   record { good = subst (λ s. Good (s .desk)) (sym (c .begin .ensures)) empty-is-good; filled = omega arith; large = omega arith },
 )
 
--- src/lib.rt:100:29
+-- src/lib.rt:94:29
 slice-aggregate-hear : tie.Need-slice-aggregate-hear Inv-loop μ-loop
 slice-aggregate-hear c = search needs
 
--- src/lib.rt:100:9
+-- src/lib.rt:94:9
 hear-requires : tie.Need-hear-requires Inv-loop μ-loop
 hear-requires c κs =
     let f = c .before .before .before .before .loop .inv .3 in
     record { more = search needs; lines = search needs; buffer = f }
 
--- src/lib.rt:96:5
+-- src/lib.rt:90:5
 loop-less : tie.Need-loop-less Inv-loop μ-loop
 loop-less c = omega (arith, c .before .hear .ensures .further, c .before .hear .ensures .inside)
 
--- src/lib.rt:96:5
+-- src/lib.rt:90:5
 loop-again : tie.Need-loop-again Inv-loop μ-loop
 loop-again c =
     let o = c .before .hear .ensures in
     (search needs, search needs, search needs, record { good = o .buffer .good; filled = search needs; large = search needs })
 
--- src/lib.rt:103:34
+-- src/lib.rt:97:34
 array-share-prefix-out : tie.Need-array-share-prefix-out Inv-loop μ-loop
 array-share-prefix-out c = omega arith
 
--- src/lib.rt:103:34
+-- src/lib.rt:97:34
 slice-aggregate-write-all : tie.Need-slice-aggregate-write-all Inv-loop μ-loop
 slice-aggregate-write-all c = simp length-take (omega arith)
 
--- src/lib.rt:103:5
+-- src/lib.rt:97:5
 write-all-requires : tie.Need-write-all-requires Inv-loop μ-loop
 write-all-requires c κs = search needs
 
--- src/lib.rt:86:1
+-- src/lib.rt:83:1
 returns : tie.Need-returns Inv-loop μ-loop
 returns c = search needs
 

@@ -7,23 +7,23 @@ use Rattle.telling.proofs.place_in.Reads as reads
 use Rattle.telling.proofs.place_in.Lts as lts
 use Rattle.io.proofs.write_all.Reads as write-all-reads
 
--- src/lib.rt:31:32
+-- src/lib.rt:30:30
 sub-if1 : tie.Need-sub-if1
 sub-if1 c = search needs
 
--- src/lib.rt:32:9
+-- src/lib.rt:31:9
 returns : tie.Need-returns
 returns c = search needs
 
--- src/lib.rt:34:34
+-- src/lib.rt:33:34
 slice-aggregate-write-all : tie.Need-slice-aggregate-write-all
 slice-aggregate-write-all c = simp length-take (omega arith)
 
--- src/lib.rt:34:5
+-- src/lib.rt:33:5
 write-all-requires : tie.Need-write-all-requires
 write-all-requires c κs = search needs
 
--- src/lib.rt:27:1
+-- src/lib.rt:26:1
 returns-2 : tie.Need-returns-2
 returns-2 c = search needs
 

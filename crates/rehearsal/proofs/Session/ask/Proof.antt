@@ -14,25 +14,25 @@ use Rattle.desk.proofs.Desk.ask.Reads as ask-reads
 use Rattle.rehearsal.proofs.Session.bad.Reads as bad-reads
 use Rattle.refusals.proofs.Verdict.answer.Reads as answer-reads
 
--- src/lib.rt:172:13
+-- src/lib.rt:131:13
 bad-requires : tie.Need-bad-requires
 bad-requires c κs = search needs
 
--- src/lib.rt:172:13
+-- src/lib.rt:131:13
 returns : tie.Need-returns
 returns c =
     let shut : c .before .before .before .args .self .opened ≡ false = not-true _ (c .before .if1 .taken) in
     record { early = λ h. c .bad .ensures; after = λ h. absurd (never _ h shut) }
 
--- src/lib.rt:174:13
+-- src/lib.rt:133:13
 ask-requires : tie.Need-ask-requires
 ask-requires c κs = search needs
 
--- src/lib.rt:177:13
+-- src/lib.rt:136:13
 answer-requires : tie.Need-answer-requires
 answer-requires c κs = search needs
 
--- src/lib.rt:168:5
+-- src/lib.rt:127:5
 returns-2 : tie.Need-returns-2
 returns-2 c =
     let s = c .before .before .before .before .before .args .self in

@@ -7,11 +7,11 @@ use Rattle.rehearsal.proofs.Session.begin.Reads as reads
 use Rattle.rehearsal.proofs.Session.begin.Lts as lts
 use Rattle.desk.proofs.Desk.none.Reads as none-reads
 
--- src/lib.rt:101:19
+-- src/lib.rt:60:19
 none-requires : tie.Need-none-requires
 none-requires c κs = search needs
 
--- src/lib.rt:97:5
+-- src/lib.rt:56:5
 returns : tie.Need-returns
 returns c = λ i. record { desk = c .none .ensures i; list = replicate 51 0; feeds = 0; opened = false; over = false; left = 0 }
 

@@ -13,26 +13,26 @@ use Rattle.desk.proofs.Desk.end.Reads as end-reads
 use Rattle.rehearsal.proofs.Session.bad.Reads as bad-reads
 use Rattle.refusals.proofs.Verdict.answer.Reads as answer-reads
 
--- src/lib.rt:190:13
+-- src/lib.rt:149:13
 bad-requires : tie.Need-bad-requires
 bad-requires c κs = search needs
 
--- src/lib.rt:190:13
+-- src/lib.rt:149:13
 returns : tie.Need-returns
 unfolding endOf
 returns c =
     let shut : c .before .before .before .args .self .opened ≡ false = not-true _ (c .before .if1 .taken) in
     c .bad .ensures ∙ rw shut
 
--- src/lib.rt:192:13
+-- src/lib.rt:151:13
 end-requires : tie.Need-end-requires
 end-requires c κs = search needs
 
--- src/lib.rt:195:13
+-- src/lib.rt:154:13
 answer-requires : tie.Need-answer-requires
 answer-requires c κs = search needs
 
--- src/lib.rt:186:5
+-- src/lib.rt:145:5
 returns-2 : tie.Need-returns-2
 unfolding endOf
 returns-2 c =

@@ -17,50 +17,50 @@ use Rattle.desk.proofs.Desk.open.Reads as open-reads
 use Rattle.rehearsal.proofs.Session.bad.Reads as bad-reads
 use Rattle.refusals.proofs.Verdict.answer.Reads as answer-reads
 
--- src/lib.rt:147:13
+-- src/lib.rt:106:13
 bad-requires : tie.Need-bad-requires
 bad-requires c κs = search needs
 
--- src/lib.rt:147:13
+-- src/lib.rt:106:13
 returns : tie.Need-returns
 unfolding goOf
 returns c = c .bad .ensures ∙ rw (c .before .if1 .taken)
 
--- src/lib.rt:150:13
+-- src/lib.rt:109:13
 bad-requires-2 : tie.Need-bad-requires-2
 bad-requires-2 c κs = search needs
 
--- src/lib.rt:150:13
+-- src/lib.rt:109:13
 returns-2 : tie.Need-returns-2
 unfolding goOf
 returns-2 c =
     c .bad2 .ensures ∙ rw (c .before .before .before .if1 .left, lt-ltb _ _ (c .before .if2 .taken))
 
--- src/lib.rt:153:23
+-- src/lib.rt:112:23
 mul-numbers : tie.Need-mul-numbers
 mul-numbers c = search needs
 
--- src/lib.rt:154:33
+-- src/lib.rt:113:33
 array-share-prefix-list : tie.Need-array-share-prefix-list
 array-share-prefix-list c =
     let long : length (c .before .before .before .before .before .args .self .list) ≡ 51 = search (needs, length-mapped) in
     omega (arith, c .before .before .if2 .left)
 
--- src/lib.rt:154:33
+-- src/lib.rt:113:33
 slice-aggregate-open : tie.Need-slice-aggregate-open
 slice-aggregate-open c =
     let long : length (c .before .before .before .before .before .before .args .self .list) ≡ 51 = search (needs, length-mapped) in
     simp length-take (omega (arith, c .before .before .before .if2 .left))
 
--- src/lib.rt:154:13
+-- src/lib.rt:113:13
 open-requires : tie.Need-open-requires
 open-requires c κs = search needs
 
--- src/lib.rt:157:13
+-- src/lib.rt:116:13
 answer-requires : tie.Need-answer-requires
 answer-requires c κs = search needs
 
--- src/lib.rt:143:5
+-- src/lib.rt:102:5
 returns-3 : tie.Need-returns-3
 unfolding goOf
 returns-3 c =

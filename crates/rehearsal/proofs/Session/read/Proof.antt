@@ -13,60 +13,60 @@ use Rattle.rehearsal.proofs.Session.hear.Reads as hear-reads
 use Rattle.words.proofs.line_end.Reads as line-end-reads
 use Rattle.words.proofs.read_line.Reads as read-line-reads
 
--- src/lib.rt:299:20
+-- src/lib.rt:271:20
 add-line : tie.Need-add-line
 add-line c = search needs
 
--- src/lib.rt:300:15
+-- src/lib.rt:272:15
 line-end-requires : tie.Need-line-end-requires
 line-end-requires c κs = search needs
 
--- src/lib.rt:301:23
+-- src/lib.rt:273:23
 enum-known-end : tie.Need-enum-known-end
 enum-known-end c = search needs
 
--- src/lib.rt:302:28
+-- src/lib.rt:274:28
 add-next : tie.Need-add-next
 add-next c = omega (arith, found-at newline _ _ _ (sym (c .before .before .before .line-end .ensures) ∙ c .before .end .given .1) .inside)
 
--- src/lib.rt:304:60
+-- src/lib.rt:276:60
 sub-read-line : tie.Need-sub-read-line
 sub-read-line c = found-at newline _ _ _ (sym (c .before .before .before .line-end .ensures) ∙ c .before .end .given .1) .after
 
--- src/lib.rt:304:60
+-- src/lib.rt:276:60
 part-read-line-start : tie.Need-part-read-line-start
 part-read-line-start c =
     let there = found-at newline _ _ _ (sym (c .before .before .before .line-end .ensures) ∙ c .before .end .given .1) in
     omega (arith, there .inside, there .after)
 
--- src/lib.rt:304:60
+-- src/lib.rt:276:60
 part-read-line-end : tie.Need-part-read-line-end
 part-read-line-end c = omega (arith, found-at newline _ _ _ (sym (c .before .before .before .line-end .ensures) ∙ c .before .end .given .1) .inside)
 
--- src/lib.rt:304:43
+-- src/lib.rt:276:43
 read-line-requires : tie.Need-read-line-requires
 read-line-requires c κs = search needs
 
--- src/lib.rt:304:27
+-- src/lib.rt:276:27
 hear-requires : tie.Need-hear-requires
 hear-requires c κs = search needs
 
--- src/lib.rt:312:23
+-- src/lib.rt:284:23
 enum-told : tie.Need-enum-told
 enum-told c = search needs
 
--- src/lib.rt:312:23
+-- src/lib.rt:284:23
 bad-requires : tie.Need-bad-requires
 bad-requires c κs = search needs
 
--- src/lib.rt:294:5
+-- src/lib.rt:266:5
 returns : tie.Need-returns
 unfolding HeardTo
 returns c =
     let there = sym (c .before .before .before .before .before .before .line-end .ensures) ∙ c .before .before .before .before .end .given .1 in
     record { heard = rw there (rw (c .before .read-line .ensures) at (c .hear .ensures), refl); counted = refl }
 
--- src/lib.rt:294:5
+-- src/lib.rt:266:5
 returns-2 : tie.Need-returns-2
 unfolding HeardTo
 returns-2 c =

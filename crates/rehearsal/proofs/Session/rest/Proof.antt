@@ -13,26 +13,26 @@ use Rattle.desk.proofs.Desk.rest.Reads as rest-reads
 use Rattle.rehearsal.proofs.Session.bad.Reads as bad-reads
 use Rattle.refusals.proofs.Verdict.answer.Reads as answer-reads
 
--- src/lib.rt:208:13
+-- src/lib.rt:167:13
 bad-requires : tie.Need-bad-requires
 bad-requires c κs = search needs
 
--- src/lib.rt:208:13
+-- src/lib.rt:167:13
 returns : tie.Need-returns
 unfolding restOf
 returns c =
     let shut : c .before .before .before .args .self .opened ≡ false = not-true _ (c .before .if1 .taken) in
     c .bad .ensures ∙ rw shut
 
--- src/lib.rt:210:13
+-- src/lib.rt:169:13
 rest-requires : tie.Need-rest-requires
 rest-requires c κs = search needs
 
--- src/lib.rt:213:13
+-- src/lib.rt:172:13
 answer-requires : tie.Need-answer-requires
 answer-requires c κs = search needs
 
--- src/lib.rt:204:5
+-- src/lib.rt:163:5
 returns-2 : tie.Need-returns-2
 unfolding restOf
 returns-2 c =

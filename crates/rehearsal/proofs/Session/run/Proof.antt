@@ -9,18 +9,18 @@ use Rattle.rehearsal.proofs.Session.run.Reads as reads
 use Rattle.rehearsal.proofs.Session.run.Lts as lts
 use Rattle.rehearsal.proofs.Session.bad.Reads as bad-reads
 
--- src/lib.rt:227:13
+-- src/lib.rt:186:13
 bad-requires : tie.Need-bad-requires
 bad-requires c κs = search needs
 
--- src/lib.rt:227:13
+-- src/lib.rt:186:13
 returns : tie.Need-returns
 unfolding runOf
 returns c =
     let shut : c .before .before .before .args .self .opened ≡ false = not-true _ (c .before .if1 .taken) in
     c .bad .ensures ∙ rw shut
 
--- src/lib.rt:223:5
+-- src/lib.rt:182:5
 returns-2 : tie.Need-returns-2
 unfolding runOf
 returns-2 c =

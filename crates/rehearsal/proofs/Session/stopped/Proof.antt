@@ -7,11 +7,11 @@ use Rattle.rehearsal.proofs.Session.stopped.Reads as reads
 use Rattle.rehearsal.proofs.Session.stopped.Lts as lts
 use Rattle.refusals.proofs.Refusal.number.Reads as number-reads
 
--- src/lib.rt:289:33
+-- src/lib.rt:261:33
 number-requires : tie.Need-number-requires
 number-requires c κs = search needs
 
--- src/lib.rt:282:5
+-- src/lib.rt:254:5
 returns : tie.Need-returns
 returns c = λ i. record { session = withLeft (c .before .args .self) 0; said = Said.Stopped (c .number .ensures i) }
 

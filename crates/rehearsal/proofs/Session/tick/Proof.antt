@@ -17,19 +17,19 @@ use Rattle.serving.proofs.tick.Reads as tick-reads
 use Rattle.ticks.proofs.Instant.is_after.Reads as is-after-reads
 use Rattle.ticks.proofs.Instant.last.Reads as last-reads
 
--- src/lib.rt:266:13
+-- src/lib.rt:218:13
 last-requires : tie.Need-last-requires
 last-requires c κs = search needs
 
--- src/lib.rt:267:13
+-- src/lib.rt:219:13
 is-after-requires : tie.Need-is-after-requires
 is-after-requires c κs = search needs
 
--- src/lib.rt:268:13
+-- src/lib.rt:220:13
 stopped-requires : tie.Need-stopped-requires
 stopped-requires c κs = search needs
 
--- src/lib.rt:268:13
+-- src/lib.rt:220:13
 returns : tie.Need-returns
 returns c =
     let s = c .before .before .before .before .before .args .self in
@@ -37,7 +37,7 @@ returns c =
     = ap (λ t. ltb (s .desk .clock .0) (t .0)) (sym (c .before .before .before .last .ensures)) ∙ sym (c .before .before .is-after .ensures) ∙ not-true _ (c .before .if1 .taken) in
     c .stopped .ensures ∙ past-last s (c .before .before .before .before .before .pre .1) (ltb-false _ _ late)
 
--- src/lib.rt:271:13
+-- src/lib.rt:223:13
 tick-requires : tie.Need-tick-requires
 tick-requires c κs =
     let d = c .before .before .before .before .args .self .desk in
@@ -45,23 +45,23 @@ tick-requires c κs =
     = ap (λ t. ltb (d .clock .0) (t .0)) (sym (c .before .before .last .ensures)) ∙ sym (c .before .is-after .ensures) ∙ not-false _ (c .if1 .left) in
     steppable d (c .before .before .before .before .pre .1 .sized) (c .before .before .before .before .pre .1 .order) (ltb-true _ _ early)
 
--- src/lib.rt:284:24
+-- src/lib.rt:236:24
 sub-session : tie.Need-sub-session
 sub-session c = search needs
 
--- src/lib.rt:286:22
+-- src/lib.rt:238:22
 enum-known-who : tie.Need-enum-known-who
 enum-known-who c = search needs
 
--- src/lib.rt:290:23
+-- src/lib.rt:242:23
 enum-known-who-2 : tie.Need-enum-known-who-2
 enum-known-who-2 c = search needs
 
--- src/lib.rt:296:23
+-- src/lib.rt:248:23
 enum-told : tie.Need-enum-told
 enum-told c = search needs
 
--- src/lib.rt:261:5
+-- src/lib.rt:213:5
 returns-2 : tie.Need-returns-2
 unfolding tickOf
 returns-2 c =
@@ -72,7 +72,7 @@ returns-2 c =
     told s (written-step t) _ _ (ticked-step (s .desk) t (c .before .before .before .before .before .before .before .before .before .before .before .before .before .pre .1) (ltb-true _ _ early) (c .before .before .before .before .before .before .before .before .tick .ensures))
     (ap (λ w. ranBy w (t .named .owes)) (c .before .who .given .1))
 
--- src/lib.rt:261:5
+-- src/lib.rt:213:5
 returns-3 : tie.Need-returns-3
 unfolding tickOf
 returns-3 c =
@@ -83,7 +83,7 @@ returns-3 c =
     told s (written-step t) _ _ (ticked-step (s .desk) t (c .before .before .before .before .before .before .before .before .before .before .before .before .before .pre .1) (ltb-true _ _ early) (c .before .before .before .before .before .before .before .before .tick .ensures))
     (ap (λ w. ranBy w (t .named .owes)) (c .before .who2 .given .1))
 
--- src/lib.rt:261:5
+-- src/lib.rt:213:5
 returns-4 : tie.Need-returns-4
 unfolding tickOf
 returns-4 c =

@@ -10,33 +10,33 @@ use Rattle.sayings.proofs.put.asked.Lts as lts
 use Rattle.sayings.proofs.put.verdict.Reads as verdict-reads
 use Rattle.sayings.proofs.put.worded.Reads as worded-reads
 
--- src/put.rt:44:29
+-- src/put.rt:47:29
 slice-aggregate-worded : tie.Need-slice-aggregate-worded
 slice-aggregate-worded c = search needs
 
--- src/put.rt:44:53
+-- src/put.rt:47:53
 slice-aggregate-worded-2 : tie.Need-slice-aggregate-worded-2
 slice-aggregate-worded-2 c = search needs
 
--- src/put.rt:44:9
+-- src/put.rt:47:9
 worded-requires : tie.Need-worded-requires
 worded-requires c κs = search needs
 
--- src/put.rt:45:21
+-- src/put.rt:48:21
 slice-aggregate-verdict : tie.Need-slice-aggregate-verdict
 slice-aggregate-verdict c = search needs
 
--- src/put.rt:45:5
+-- src/put.rt:48:5
 verdict-requires : tie.Need-verdict-requires
 verdict-requires c κs =
     let p = c .before .before .before .before .worded .ensures in
     (omega (arith, digits-wide (c .before .before .before .before .before .before .before .before .before .args .number) (omega arith), simp length-append at (p .next), put-length p, c .before .before .before .before .before .before .before .before .before .pre), omega arith)
 
--- src/put.rt:40:1
+-- src/put.rt:43:1
 same-length : tie.Need-same-length
 same-length c = search needs
 
--- src/put.rt:40:1
+-- src/put.rt:43:1
 returns : tie.Need-returns
 returns c = put-after (c .before .before .before .before .before .before .before .worded .ensures) (c .before .before .verdict .ensures)
 

@@ -7,23 +7,23 @@ use Rattle.sayings.proofs.put.called.Lts as lts
 use Rattle.sayings.proofs.put.verdict.Reads as verdict-reads
 use Rattle.words.proofs.put.text.Reads as text-reads
 
--- src/put.rt:36:9
+-- src/put.rt:39:9
 text-requires : tie.Need-text-requires
 text-requires c κs = search needs
 
--- src/put.rt:37:21
+-- src/put.rt:40:21
 slice-aggregate-verdict : tie.Need-slice-aggregate-verdict
 slice-aggregate-verdict c = search needs
 
--- src/put.rt:37:5
+-- src/put.rt:40:5
 verdict-requires : tie.Need-verdict-requires
 verdict-requires c κs = search needs
 
--- src/put.rt:32:1
+-- src/put.rt:35:1
 same-length : tie.Need-same-length
 same-length c = search needs
 
--- src/put.rt:32:1
+-- src/put.rt:35:1
 returns : tie.Need-returns
 returns c = put-after (c .before .before .before .before .before .before .before .text .ensures) (c .before .before .verdict .ensures)
 

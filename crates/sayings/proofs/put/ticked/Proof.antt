@@ -9,26 +9,26 @@ use Rattle.sayings.proofs.put.ticked.Lts as lts
 use Rattle.sayings.proofs.put.worded.Reads as worded-reads
 use Rattle.words.proofs.put.number.Reads as number-reads
 
--- src/put.rt:53:9
+-- src/put.rt:56:9
 number-requires : tie.Need-number-requires
 number-requires c κs =
     omega (arith, digits-wide (c .before .before .before .args .instant) (omega arith), c .before .before .before .pre)
 
--- src/put.rt:54:36
+-- src/put.rt:57:36
 slice-aggregate-worded : tie.Need-slice-aggregate-worded
 slice-aggregate-worded c = search needs
 
--- src/put.rt:54:5
+-- src/put.rt:57:5
 worded-requires : tie.Need-worded-requires
 worded-requires c κs =
     let p = c .before .before .before .before .number .ensures in
     omega (arith, digits-wide (c .before .before .before .before .before .before .before .before .args .instant) (omega arith), p .next, put-length p, c .before .before .before .before .before .before .before .before .pre)
 
--- src/put.rt:49:1
+-- src/put.rt:52:1
 same-length : tie.Need-same-length
 same-length c = search needs
 
--- src/put.rt:49:1
+-- src/put.rt:52:1
 returns : tie.Need-returns
 returns c = put-after (c .before .before .before .before .before .before .before .number .ensures) (c .before .before .worded .ensures)
 

@@ -7,35 +7,35 @@ use Rattle.sayings.proofs.put.verdict.Lts as lts
 use Rattle.sayings.proofs.put.worded.Reads as worded-reads
 use Rattle.words.proofs.put.text.Reads as text-reads
 
--- src/put.rt:26:9
+-- src/put.rt:29:9
 text-requires : tie.Need-text-requires
 text-requires c κs = search needs
 
--- src/put.rt:26:9
+-- src/put.rt:29:9
 same-length : tie.Need-same-length
 same-length c = search needs
 
--- src/put.rt:26:9
+-- src/put.rt:29:9
 returns : tie.Need-returns
 returns c = rw (eq-eqb _ _ (c .before .before .before .before .if1 .taken)) (c .before .before .text .ensures)
 
--- src/put.rt:28:21
+-- src/put.rt:31:21
 slice-aggregate-worded : tie.Need-slice-aggregate-worded
 slice-aggregate-worded c = search needs
 
--- src/put.rt:28:45
+-- src/put.rt:31:45
 slice-aggregate-worded-2 : tie.Need-slice-aggregate-worded-2
 slice-aggregate-worded-2 c = search needs
 
--- src/put.rt:28:5
+-- src/put.rt:31:5
 worded-requires : tie.Need-worded-requires
 worded-requires c κs = search needs
 
--- src/put.rt:21:1
+-- src/put.rt:24:1
 same-length-2 : tie.Need-same-length-2
 same-length-2 c = search needs
 
--- src/put.rt:21:1
+-- src/put.rt:24:1
 returns-2 : tie.Need-returns-2
 returns-2 c = rw (ne-eqb _ _ (c .before .before .before .before .before .before .if1 .left)) (c .before .before .worded .ensures)
 

@@ -9,28 +9,28 @@ use Rattle.sayings.proofs.put.worded.Lts as lts
 use Rattle.words.proofs.put.number.Reads as number-reads
 use Rattle.words.proofs.put.text.Reads as text-reads
 
--- src/put.rt:15:9
+-- src/put.rt:18:9
 text-requires : tie.Need-text-requires
 text-requires c κs = search needs
 
--- src/put.rt:16:9
+-- src/put.rt:19:9
 number-requires : tie.Need-number-requires
 number-requires c κs =
     let p = c .before .before .before .text .ensures in
     omega (arith, digits-wide (c .before .before .before .before .before .before .before .before .args .n) (omega arith), p .next, put-length p, c .before .before .before .before .before .before .before .before .pre)
 
--- src/put.rt:17:5
+-- src/put.rt:20:5
 text-requires-2 : tie.Need-text-requires-2
 text-requires-2 c κs =
     let p = c .before .before .before .before .before .before .before .text .ensures in
     let q = c .before .before .before .number .ensures in
     omega (arith, digits-wide (c .before .before .before .before .before .before .before .before .before .before .before .before .args .n) (omega arith), p .next, put-length p, q .next, put-length q, c .before .before .before .before .before .before .before .before .before .before .before .before .pre)
 
--- src/put.rt:11:1
+-- src/put.rt:14:1
 same-length : tie.Need-same-length
 same-length c = search needs
 
--- src/put.rt:11:1
+-- src/put.rt:14:1
 returns : tie.Need-returns
 returns c = put-after (c .before .before .before .before .before .before .before .before .before .before .text .ensures) (put-after (c .before .before .before .before .before .before .number .ensures) (c .before .before .text2 .ensures))
 
