@@ -1,14 +1,12 @@
 -- What a refusal and what a yes hand back.
-use mathlib.Core.Path.{_≡_, refl, sym, ap, _∙_}
-use mathlib.Core.Bool.{true, false, cond}
-use mathlib.Core.List.{List, [], _∷_}
+use mathlib.Core.Path.{_≡_, sym, _∙_}
+use mathlib.Core.List.{List}
 use Rattle.serving.specs.declared.Named.{Named}
 use Rattle.desk.specs.declared.Desk.{Desk}
 use Rattle.desk.specs.declared.Answer.{Answer}
 use Rattle.desk.specs.declared.Stepped.{Stepped}
 use Rattle.refusals.specs.declared.Refusal.{Refusal}
 use Rattle.desk.specs.declared.Ran.the-variants as ran
-use Rattle.refusals.specs.declared.Verdict.{Verdict}
 use Rattle.refusals.specs.declared.Verdict.the-variants.{Yes, No}
 use Rattle.refusals.specs.Refusals.{Line, firstOf, onYes}
 use Rattle.desk.specs.Answers.{ranOf, ranIf, answered}

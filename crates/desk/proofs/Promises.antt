@@ -35,7 +35,6 @@ use Rattle.ledger.specs.Reading.{bookJob, bookFeeds}
 use Rattle.desk.specs.declared.Desk.{Desk}
 use Rattle.desk.specs.declared.Answer.{Answer}
 use Rattle.desk.specs.declared.Ran.{Ran}
-use Rattle.desk.specs.declared.Ran.the-variants as ran
 use Rattle.refusals.specs.declared.Verdict.{Verdict}
 use Rattle.refusals.specs.declared.Verdict.the-variants.{Yes, No}
 use Rattle.desk.specs.State.{inOrder, book, deskOf, empty, Good}

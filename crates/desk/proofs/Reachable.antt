@@ -28,7 +28,7 @@ use Rattle.ledger.specs.InOrder.{JobHeld, Held}
 use Rattle.ledger.proofs.Reading.{placed, feeds-of-book}
 use Rattle.ledger.proofs.InOrder.{book-held, book-light, positions-once}
 use Rattle.desk.specs.declared.Desk.{Desk}
-use Rattle.desk.specs.State.{inOrder, book, deskOf, Sized, Good}
+use Rattle.desk.specs.State.{book, deskOf, Good}
 use Rattle.desk.specs.Asking.{with-job, Admissible}
 use Rattle.desk.proofs.State.{in-order, held-desk, book-of-desk}
 

@@ -4,7 +4,6 @@ use mathlib.Core.List.{List, [], _∷_, _++_}
 use Prim.Native.Nat.{ℕ, _+_, _<_}
 use native.Mathlib.Omega.{arith}
 use Rattle.ticks.specs.Ticks.{ticks}
-use Rattle.feeds.specs.declared.Listed.the-variants as listed
 use Rattle.jobs.specs.declared.Job.{Job}
 use Rattle.jobs.specs.Jobs.{live}
 use Rattle.edf.specs.Book as edf

@@ -1,7 +1,7 @@
 -- A run of calls on the desk, followed in the mathematics: call by call the same book, the same names.
 use mathlib.Core.Path.{_≡_, refl, sym, ap, _∙_, subst}
 use mathlib.Core.Logic.{_⊎_, inl, inr}
-use mathlib.Core.Bool.{true, false, cond}
+use mathlib.Core.Bool.{true, false}
 use mathlib.Core.List.{List, [], _∷_}
 use Prim.Native.Nat.{ℕ, _<_}
 use native.Mathlib.Omega.{arith}
@@ -30,7 +30,7 @@ use Rattle.desk.specs.State.{book, deskOf, Good}
 use Rattle.refusals.specs.Refusals.{Line, firstOf, onYes}
 use Rattle.desk.specs.Answers.{ranBy, ranIf}
 use Rattle.desk.specs.Calls.{disorder, stepLines, stepOf, endLines, endOf, restLines, restOf}
-use Rattle.refusals.specs.declared.Refusal.the-variants.{DoesNotFit, NotInOrder}
+use Rattle.refusals.specs.declared.Refusal.the-variants.{DoesNotFit}
 use Rattle.desk.specs.Asking.{askLines, requested, with-job, Admissible, Judged, Asked}
 use Rattle.desk.specs.Runs.{Call, ask, step, end, rest, look, Right, after, run, AllRight, whoRan, names, named}
 use Rattle.desk.proofs.State.{book-of-desk}

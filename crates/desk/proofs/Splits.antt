@@ -6,14 +6,12 @@ use Prim.Native.Nat.{ℕ}
 use native.Mathlib.Omega.{arith}
 use Rattle.lists.proofs.Lists.{some-map, some-of-map}
 use Rattle.ticks.specs.Ticks.{ticks}
-use Rattle.feeds.specs.declared.Listed.the-variants as listed
 use Rattle.jobs.specs.declared.Job.{Job}
 use Rattle.jobs.specs.Jobs.{live}
 use Rattle.edf.specs.Book as edf
 use Rattle.edf.specs.Step as edfStep
 use Rattle.edf.specs.Calls as calls
 use Rattle.edf.specs.Kept as kept
-use Rattle.edf.proofs.Promises as edfPromises
 use Rattle.ledger.specs.Reading.{bookJob}
 use Rattle.serving.specs.Tick.{namedOf}
 use Rattle.desk.specs.declared.Desk.{Desk}

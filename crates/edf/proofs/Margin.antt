@@ -1,6 +1,6 @@
 -- How far one has to look for the smallest margin, and that a customer can be told of one instant only.
 use mathlib.Core.Path.{_≡_, sym, subst}
-use mathlib.Core.Logic.{_⊎_, inl, inr, _↔_}
+use mathlib.Core.Logic.{inl, inr, _↔_}
 use mathlib.Core.Bool.{true, false}
 use Prim.Native.Nat.{ℕ, zero, suc, _+_, _-_, _*_, _≤_, _<_}
 use native.Mathlib.Nat.{le-mul-of-pos-right}

@@ -7,7 +7,7 @@ use native.Mathlib.Nat.{one-dvd, dvd-refl}
 use lib.Dec.{leb, lit<, lit≤}
 use borrow.Author.Tests.{le-leb, lt-leb}
 use Rattle.ticks.specs.Ticks.{mostFeed}
-use Rattle.lists.specs.Lists.{every, total, allOf}
+use Rattle.lists.specs.Lists.{every, allOf}
 use Rattle.feeds.specs.declared.Feed.{Feed}
 use Rattle.feeds.specs.declared.Listed.the-variants.{Fine, NotThree, RoundTooLong, TooMuch}
 use Rattle.feeds.specs.Feeds.{feedIn}

@@ -7,7 +7,7 @@ use native.Mathlib.Omega.{arith}
 use lib.Dec.{eqb}
 use lib.ListN.{take, drop}
 use borrow.Author.Tests.{eq-eqb, ne-eqb, eqb-true, eqb-false, not-true}
-use Rattle.lists.specs.Lists.{every, total, bit}
+use Rattle.lists.specs.Lists.{every, bit}
 use Rattle.lists.proofs.Tests.{both, both-made}
 use Rattle.jobs.specs.declared.Job.{Job}
 use Rattle.jobs.specs.declared.Found.{Found}

@@ -10,7 +10,7 @@ use native.Mathlib.Omega.{arith}
 use lib.ListN.{length, take, drop, set, length-append}
 use lib.Seq.{length-take-le, paste}
 use Rattle.ticks.specs.declared.Instant.{Instant}
-use Rattle.lists.specs.Lists.{Each, filled, total, bit}
+use Rattle.lists.specs.Lists.{Each, filled, bit}
 use Rattle.lists.proofs.Places.{filled-more, filled-of-unused, filled-without, length-without, take-filled}
 use Rattle.lists.proofs.Lists.{each-append, total-append}
 use Rattle.lists.proofs.Places.{unused-of-filled, each-take, each-drop, total-without}

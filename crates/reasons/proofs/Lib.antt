@@ -1,4 +1,4 @@
-pub mod Due
+pub mod Until
 pub mod Walk
 pub mod Parts
 pub mod Fits

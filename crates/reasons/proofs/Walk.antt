@@ -1,5 +1,5 @@
 -- Laws of the walk to the first overbooked instant or the tightest one.
-use mathlib.Core.Path.{_≡_, refl, ap}
+use mathlib.Core.Path.{_≡_, refl}
 use mathlib.Core.Bool.{cond}
 use mathlib.Core.List.{List}
 use Prim.Native.Nat.{ℕ, _+_, _-_, _≤_, _<_}
@@ -12,15 +12,15 @@ use Rattle.feeds.specs.declared.Feed.{Feed}
 use Rattle.feeds.specs.Round.{periods, roundOf}
 use Rattle.jobs.specs.declared.Job.{Job}
 use Rattle.edf.specs.Book.{Book}
-use Rattle.edf.specs.Owed.{owedBy, Room, RoomBelow}
+use Rattle.edf.specs.Owed.{owedBy, RoomBelow}
 use Rattle.edf.specs.Margin.{Overbooked, InTime, NoLarger, Smaller, FirstOverbooked, Tightest}
-use Rattle.edf.proofs.Horizon.{owedBy-mono, room-within-horizon}
+use Rattle.edf.proofs.Horizon.{room-within-horizon}
 use Rattle.edf.proofs.Margin.{margin-within-horizon}
 use Rattle.ledger.specs.Reading.{bookOf}
 use Rattle.ledger.specs.InOrder.{InOrder}
 use Rattle.ledger.proofs.InOrder.{book-in-order, book-round}
 use Rattle.room.specs.Owed.{lastDue, horizonOf}
-use Rattle.reasons.specs.Due.{Until}
+use Rattle.reasons.specs.Until.{Until}
 use Rattle.room.proofs.Owed.{last-beyond}
 use Rattle.reasons.specs.declared.Debt.{Debt}
 use Rattle.reasons.specs.Reasons.{debtBy, tighter}

@@ -1,2 +1,2 @@
-pub mod Due
+pub mod Until
 pub mod Reasons

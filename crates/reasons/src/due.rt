@@ -14,7 +14,7 @@ ghost use Rattle.jobs.specs.Jobs.{mostJobs, live as liveJobs};
 ghost use Rattle.edf.specs.Owed.{owedBy};
 ghost use Rattle.ledger.specs.Reading.{bookOf};
 ghost use Rattle.room.specs.Owed.{Ordered, jobOwes, feedOwes, FeedOrdered, Reach};
-ghost use Rattle.reasons.specs.Due.{earlier, Until};
+ghost use Rattle.reasons.specs.Until.{earlier, Until};
 
 fn earlier(one: Instant, other: Instant) -> Instant
     ensures { λ r. ⌜ r ≡ instant (earlier (one .0) (other .0)) ⌝ }

@@ -1,13 +1,10 @@
 -- Laws of the walk back from the horizon.
-use mathlib.Core.Path.{_≡_, refl, sym, ap, _∙_}
-use mathlib.Core.Bool.{Bool, true, false, cond}
-use mathlib.Core.List.{List, [], _∷_}
+use mathlib.Core.Path.{_≡_, refl}
+use mathlib.Core.Bool.{Bool, true, false}
+use mathlib.Core.List.{List}
 use Prim.Native.Nat.{ℕ, suc, _+_, _-_, _≤_, _<_}
-use native.Mathlib.Nat.{le-refl}
 use native.Mathlib.Decide.{decLe, decLt}
 use native.Mathlib.Omega.{arith}
-use Rattle.lists.specs.Lists.{total}
-use Rattle.lists.proofs.Tests.{ltb-elim}
 use Rattle.ticks.specs.declared.Instant.{Instant}
 use Rattle.feeds.specs.declared.Feed.{Feed}
 use Rattle.feeds.specs.Round.{periods, roundOf}
@@ -15,7 +12,6 @@ use Rattle.jobs.specs.declared.Job.{Job}
 use Rattle.edf.specs.Book.{Book}
 use Rattle.edf.specs.Owed.{owedBy, Room, RoomBelow}
 use Rattle.edf.specs.Order.{InOrder as BookInOrder}
-use Rattle.edf.proofs.Demand.{byThen-in, byThen-out}
 use Rattle.edf.proofs.Sound.{owedBy-past}
 use Rattle.edf.proofs.Horizon.{room-jumps, room-within-horizon}
 use Rattle.edf.proofs.Equality.{fits-iff-room}

@@ -4,7 +4,6 @@ use mir.Syntax.{w64}
 use mir.ValLaws.{toZ-ofZ}
 use Prim.Native.Nat.{_-_, _≤_, _<_}
 use native.Mathlib.Omega.{arith}
-use borrow.Author.Needs.{needs}
 use Rattle.ticks.specs.Ticks.{instant}
 use Rattle.edf.specs.Owed.{owedBy}
 use Rattle.edf.specs.Margin.{Telling}

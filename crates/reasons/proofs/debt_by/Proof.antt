@@ -1,5 +1,4 @@
 -- `reasons::debt_by` meets its contract. Assumes nothing.
-use mathlib.Core.Path.{ap}
 use borrow.Author.Needs.{needs}
 use Rattle.reasons.proofs.debt_by.Statement.{statement}
 use Rattle.reasons.proofs.debt_by.Tie as tie

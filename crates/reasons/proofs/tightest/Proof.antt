@@ -4,7 +4,6 @@ use mathlib.Core.Path.{_≡_, refl, ap}
 use mathlib.Core.Logic.{inl, inr}
 use Prim.Native.Nat.{ℕ, _+_, _-_, _≤_, _<_}
 use native.Mathlib.Omega.{arith}
-use borrow.Author.Needs.{needs}
 use Rattle.feeds.specs.Feeds.{live as liveFeeds}
 use Rattle.jobs.specs.Jobs.{live as liveJobs}
 use Rattle.edf.specs.Book.{Book}

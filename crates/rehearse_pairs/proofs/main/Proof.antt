@@ -4,10 +4,6 @@ use native.Mathlib.Omega.{arith}
 use borrow.Author.Needs.{needs}
 use Rattle.rehearse_pairs.proofs.main.Statement.{statement}
 use Rattle.rehearse_pairs.proofs.main.Tie as tie
-use Rattle.rehearse_pairs.proofs.main.Reads as reads
-use Rattle.rehearse_pairs.proofs.main.Lts as lts
-use Rattle.os.proofs.arg_count.Reads as arg-count-reads
-use Rattle.rehearse_pairs.proofs.pair_of.Reads as pair-of-reads
 
 abbrev Inv-loop : tie.InvT-loop
 Inv-loop argument₀ argument-end argument = Unit {0}

@@ -3,7 +3,6 @@ use mathlib.Core.Path.{_≡_, sym, ap, subst}
 use Prim.Native.Nat.{suc, _+_, _-_, _≤_, _<_}
 use native.Mathlib.Nat.{le-refl}
 use native.Mathlib.Omega.{arith}
-use borrow.Author.Needs.{needs}
 use Rattle.lists.proofs.Tests.{false-not-true}
 use Rattle.feeds.specs.Feeds.{live as liveFeeds}
 use Rattle.jobs.specs.Jobs.{live as liveJobs}
@@ -11,7 +10,6 @@ use Rattle.edf.specs.Book.{Book}
 use Rattle.edf.specs.Owed.{owedBy}
 use Rattle.ledger.specs.Reading.{bookOf}
 use Rattle.ledger.proofs.InOrder.{book-in-order}
-use Rattle.room.specs.Owed.{Reach}
 use Rattle.room.specs.Walk.{RoomFrom}
 use Rattle.room.proofs.Walk.{room-last, room-back, room-all, room-stops}
 use Rattle.room.proofs.room_below.Statement.{statement}

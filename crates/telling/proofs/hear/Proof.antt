@@ -2,11 +2,6 @@ use Rattle.rehearsal.proofs.Turns.{read-on, read-good}
 use borrow.Author.Needs.{needs}
 use Rattle.telling.proofs.hear.Statement.{statement}
 use Rattle.telling.proofs.hear.Tie as tie
-use Rattle.telling.proofs.hear.Reads as reads
-use Rattle.telling.proofs.hear.Lts as lts
-use Rattle.rehearsal.proofs.Session.read.Reads as read-reads
-use Rattle.telling.proofs.run.Reads as run-reads
-use Rattle.telling.proofs.tell.Reads as tell-reads
 
 -- src/lib.rt:67:9
 read-requires : tie.Need-read-requires

@@ -8,11 +8,6 @@ use native.Mathlib.Omega.{arith}
 use borrow.Author.Needs.{needs}
 use Rattle.telling.proofs.hear_all.Statement.{statement}
 use Rattle.telling.proofs.hear_all.Tie as tie
-use Rattle.telling.proofs.hear_all.Reads as reads
-use Rattle.telling.proofs.hear_all.Lts as lts
-use Rattle.io.proofs.write_all.Reads as write-all-reads
-use Rattle.rehearsal.proofs.Session.begin.Reads as begin-reads
-use Rattle.telling.proofs.hear.Reads as hear-reads
 
 abbrev Inv-loop : tie.InvT-loop
 Inv-loop input out₀ going₀ out going =

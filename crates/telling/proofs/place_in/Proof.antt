@@ -3,9 +3,6 @@ use lib.ListN.{length-take}
 use borrow.Author.Needs.{needs}
 use Rattle.telling.proofs.place_in.Statement.{statement}
 use Rattle.telling.proofs.place_in.Tie as tie
-use Rattle.telling.proofs.place_in.Reads as reads
-use Rattle.telling.proofs.place_in.Lts as lts
-use Rattle.io.proofs.write_all.Reads as write-all-reads
 
 -- src/lib.rt:30:30
 sub-if1 : tie.Need-sub-if1

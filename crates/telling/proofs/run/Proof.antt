@@ -8,10 +8,6 @@ use borrow.Author.Needs.{needs}
 use Rattle.rehearsal.specs.Session.{tickOf}
 use Rattle.telling.proofs.run.Statement.{statement}
 use Rattle.telling.proofs.run.Tie as tie
-use Rattle.telling.proofs.run.Reads as reads
-use Rattle.telling.proofs.run.Lts as lts
-use Rattle.rehearsal.proofs.Session.tick.Reads as tick-reads
-use Rattle.telling.proofs.tell.Reads as tell-reads
 
 abbrev Inv-loop : tie.InvT-loop
 Inv-loop out₀ session₀ at₀ out session at = (length out ≡ length out₀) × Filled out session at

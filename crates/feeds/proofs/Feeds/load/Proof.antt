@@ -1,6 +1,6 @@
 -- `feeds::Feeds::load` meets its contract: what is added up so far and what the feeds that are left want make the whole.
 -- Assumes nothing.
-use mathlib.Core.Path.{_≡_, ap, _∙_}
+use mathlib.Core.Path.{_≡_, ap}
 use Prim.Native.Nat.{_+_, _*_, _-_, _≤_}
 use native.Mathlib.Omega.{arith}
 use borrow.Author.Needs.{needs}

@@ -6,7 +6,7 @@ use native.Mathlib.Omega.{arith}
 use borrow.Author.Needs.{needs}
 use Rattle.room.specs.Owed.{firstDue, feedOwes}
 use Rattle.room.proofs.Owed.{feed-still-before, feed-still-from}
-use Rattle.reasons.proofs.Due.{until-cut}
+use Rattle.reasons.proofs.Until.{until-cut}
 use Rattle.reasons.proofs.due.feed_due_after.Statement.{statement}
 use Rattle.reasons.proofs.due.feed_due_after.Tie as tie
 

@@ -9,7 +9,7 @@ use lib.ListN.{length, drop}
 use Rattle.lists.proofs.Places.{length-mapped, next-live, no-more-live, each-live}
 use Rattle.feeds.specs.Feeds.{live, noFeed}
 use Rattle.room.specs.Owed.{feedOwes, FeedOrdered}
-use Rattle.reasons.proofs.Due.{StillBut, still-first, still-next, still-last}
+use Rattle.reasons.proofs.Until.{StillBut, still-first, still-next, still-last}
 use Rattle.reasons.proofs.due.feeds_due_after.Statement.{statement}
 use Rattle.reasons.proofs.due.feeds_due_after.Tie as tie
 

@@ -2,7 +2,7 @@
 use native.Mathlib.Nat.{le-refl}
 use borrow.Author.Needs.{needs}
 use Rattle.room.specs.Owed.{jobOwes}
-use Rattle.reasons.proofs.Due.{until-cut, job-still-past, job-still-before}
+use Rattle.reasons.proofs.Until.{until-cut, job-still-past, job-still-before}
 use Rattle.reasons.proofs.due.job_due_after.Statement.{statement}
 use Rattle.reasons.proofs.due.job_due_after.Tie as tie
 

@@ -9,7 +9,7 @@ use Rattle.ledger.specs.Pieces.{PieceIn}
 use Rattle.ledger.specs.Reading.{bookOf}
 use Rattle.room.specs.Owed.{jobOwes, feedOwes}
 use Rattle.room.proofs.Owed.{owed-by-is}
-use Rattle.reasons.proofs.Due.{until-both}
+use Rattle.reasons.proofs.Until.{until-both}
 use Rattle.reasons.proofs.due.next_due.Statement.{statement}
 use Rattle.reasons.proofs.due.next_due.Tie as tie
 

@@ -8,11 +8,6 @@ use Rattle.rehearsal.proofs.Turns.{never}
 use borrow.Author.Needs.{needs}
 use Rattle.rehearsal.proofs.Session.ask.Statement.{statement}
 use Rattle.rehearsal.proofs.Session.ask.Tie as tie
-use Rattle.rehearsal.proofs.Session.ask.Reads as reads
-use Rattle.rehearsal.proofs.Session.ask.Lts as lts
-use Rattle.desk.proofs.Desk.ask.Reads as ask-reads
-use Rattle.rehearsal.proofs.Session.bad.Reads as bad-reads
-use Rattle.refusals.proofs.Verdict.answer.Reads as answer-reads
 
 -- src/lib.rt:131:13
 bad-requires : tie.Need-bad-requires

@@ -3,9 +3,6 @@ use lib.ListN.{replicate}
 use borrow.Author.Needs.{needs}
 use Rattle.rehearsal.proofs.Session.begin.Statement.{statement}
 use Rattle.rehearsal.proofs.Session.begin.Tie as tie
-use Rattle.rehearsal.proofs.Session.begin.Reads as reads
-use Rattle.rehearsal.proofs.Session.begin.Lts as lts
-use Rattle.desk.proofs.Desk.none.Reads as none-reads
 
 -- src/lib.rt:60:19
 none-requires : tie.Need-none-requires

@@ -7,11 +7,6 @@ use Rattle.rehearsal.specs.Session.{withDesk, callOf, endOf}
 use borrow.Author.Needs.{needs}
 use Rattle.rehearsal.proofs.Session.end.Statement.{statement}
 use Rattle.rehearsal.proofs.Session.end.Tie as tie
-use Rattle.rehearsal.proofs.Session.end.Reads as reads
-use Rattle.rehearsal.proofs.Session.end.Lts as lts
-use Rattle.desk.proofs.Desk.end.Reads as end-reads
-use Rattle.rehearsal.proofs.Session.bad.Reads as bad-reads
-use Rattle.refusals.proofs.Verdict.answer.Reads as answer-reads
 
 -- src/lib.rt:149:13
 bad-requires : tie.Need-bad-requires

@@ -6,9 +6,6 @@ use Rattle.rehearsal.specs.Session.{feedOf, mostFeedLines}
 use borrow.Author.Needs.{needs}
 use Rattle.rehearsal.proofs.Session.feed.Statement.{statement}
 use Rattle.rehearsal.proofs.Session.feed.Tie as tie
-use Rattle.rehearsal.proofs.Session.feed.Reads as reads
-use Rattle.rehearsal.proofs.Session.feed.Lts as lts
-use Rattle.rehearsal.proofs.Session.bad.Reads as bad-reads
 
 -- src/lib.rt:85:13
 bad-requires : tie.Need-bad-requires

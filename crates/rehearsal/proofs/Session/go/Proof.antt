@@ -11,11 +11,6 @@ use Rattle.rehearsal.specs.Session.{goOf, goneOf, mostFeedLines}
 use borrow.Author.Needs.{needs}
 use Rattle.rehearsal.proofs.Session.go.Statement.{statement}
 use Rattle.rehearsal.proofs.Session.go.Tie as tie
-use Rattle.rehearsal.proofs.Session.go.Reads as reads
-use Rattle.rehearsal.proofs.Session.go.Lts as lts
-use Rattle.desk.proofs.Desk.open.Reads as open-reads
-use Rattle.rehearsal.proofs.Session.bad.Reads as bad-reads
-use Rattle.refusals.proofs.Verdict.answer.Reads as answer-reads
 
 -- src/lib.rt:106:13
 bad-requires : tie.Need-bad-requires

@@ -2,15 +2,6 @@ use Rattle.rehearsal.specs.Hearing.{Heard}
 use borrow.Author.Needs.{needs}
 use Rattle.rehearsal.proofs.Session.hear.Statement.{statement}
 use Rattle.rehearsal.proofs.Session.hear.Tie as tie
-use Rattle.rehearsal.proofs.Session.hear.Reads as reads
-use Rattle.rehearsal.proofs.Session.hear.Lts as lts
-use Rattle.rehearsal.proofs.Session.ask.Reads as ask-reads
-use Rattle.rehearsal.proofs.Session.bad.Reads as bad-reads
-use Rattle.rehearsal.proofs.Session.end.Reads as end-reads
-use Rattle.rehearsal.proofs.Session.feed.Reads as feed-reads
-use Rattle.rehearsal.proofs.Session.go.Reads as go-reads
-use Rattle.rehearsal.proofs.Session.rest.Reads as rest-reads
-use Rattle.rehearsal.proofs.Session.run.Reads as run-reads
 
 -- src/lib.rt:201:24
 enum-known-means : tie.Need-enum-known-means

@@ -6,12 +6,6 @@ use Rattle.rehearsal.specs.Hearing.{HeardTo}
 use borrow.Author.Needs.{needs}
 use Rattle.rehearsal.proofs.Session.read.Statement.{statement}
 use Rattle.rehearsal.proofs.Session.read.Tie as tie
-use Rattle.rehearsal.proofs.Session.read.Reads as reads
-use Rattle.rehearsal.proofs.Session.read.Lts as lts
-use Rattle.rehearsal.proofs.Session.bad.Reads as bad-reads
-use Rattle.rehearsal.proofs.Session.hear.Reads as hear-reads
-use Rattle.words.proofs.line_end.Reads as line-end-reads
-use Rattle.words.proofs.read_line.Reads as read-line-reads
 
 -- src/lib.rt:271:20
 add-line : tie.Need-add-line

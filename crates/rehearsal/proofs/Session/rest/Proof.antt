@@ -7,11 +7,6 @@ use Rattle.rehearsal.specs.Session.{withDesk, callOf, restOf}
 use borrow.Author.Needs.{needs}
 use Rattle.rehearsal.proofs.Session.rest.Statement.{statement}
 use Rattle.rehearsal.proofs.Session.rest.Tie as tie
-use Rattle.rehearsal.proofs.Session.rest.Reads as reads
-use Rattle.rehearsal.proofs.Session.rest.Lts as lts
-use Rattle.desk.proofs.Desk.rest.Reads as rest-reads
-use Rattle.rehearsal.proofs.Session.bad.Reads as bad-reads
-use Rattle.refusals.proofs.Verdict.answer.Reads as answer-reads
 
 -- src/lib.rt:167:13
 bad-requires : tie.Need-bad-requires

@@ -5,9 +5,6 @@ use Rattle.rehearsal.specs.Session.{runOf}
 use borrow.Author.Needs.{needs}
 use Rattle.rehearsal.proofs.Session.run.Statement.{statement}
 use Rattle.rehearsal.proofs.Session.run.Tie as tie
-use Rattle.rehearsal.proofs.Session.run.Reads as reads
-use Rattle.rehearsal.proofs.Session.run.Lts as lts
-use Rattle.rehearsal.proofs.Session.bad.Reads as bad-reads
 
 -- src/lib.rt:186:13
 bad-requires : tie.Need-bad-requires

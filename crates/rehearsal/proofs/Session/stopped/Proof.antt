@@ -3,9 +3,6 @@ use Rattle.rehearsal.specs.Session.{withLeft}
 use borrow.Author.Needs.{needs}
 use Rattle.rehearsal.proofs.Session.stopped.Statement.{statement}
 use Rattle.rehearsal.proofs.Session.stopped.Tie as tie
-use Rattle.rehearsal.proofs.Session.stopped.Reads as reads
-use Rattle.rehearsal.proofs.Session.stopped.Lts as lts
-use Rattle.refusals.proofs.Refusal.number.Reads as number-reads
 
 -- src/lib.rt:261:33
 number-requires : tie.Need-number-requires

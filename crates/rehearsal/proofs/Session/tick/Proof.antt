@@ -10,12 +10,6 @@ use Rattle.rehearsal.proofs.Turns.{told, written-step, ticked-step, pas
 use borrow.Author.Needs.{needs}
 use Rattle.rehearsal.proofs.Session.tick.Statement.{statement}
 use Rattle.rehearsal.proofs.Session.tick.Tie as tie
-use Rattle.rehearsal.proofs.Session.tick.Reads as reads
-use Rattle.rehearsal.proofs.Session.tick.Lts as lts
-use Rattle.rehearsal.proofs.Session.stopped.Reads as stopped-reads
-use Rattle.serving.proofs.tick.Reads as tick-reads
-use Rattle.ticks.proofs.Instant.is_after.Reads as is-after-reads
-use Rattle.ticks.proofs.Instant.last.Reads as last-reads
 
 -- src/lib.rt:218:13
 last-requires : tie.Need-last-requires

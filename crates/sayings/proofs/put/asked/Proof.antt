@@ -5,10 +5,6 @@ use Rattle.words.proofs.Texts.{put-length, put-after}
 use borrow.Author.Needs.{needs}
 use Rattle.sayings.proofs.put.asked.Statement.{statement}
 use Rattle.sayings.proofs.put.asked.Tie as tie
-use Rattle.sayings.proofs.put.asked.Reads as reads
-use Rattle.sayings.proofs.put.asked.Lts as lts
-use Rattle.sayings.proofs.put.verdict.Reads as verdict-reads
-use Rattle.sayings.proofs.put.worded.Reads as worded-reads
 
 -- src/put.rt:47:29
 slice-aggregate-worded : tie.Need-slice-aggregate-worded

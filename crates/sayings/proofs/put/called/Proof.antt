@@ -2,10 +2,6 @@ use Rattle.words.proofs.Texts.{put-after}
 use borrow.Author.Needs.{needs}
 use Rattle.sayings.proofs.put.called.Statement.{statement}
 use Rattle.sayings.proofs.put.called.Tie as tie
-use Rattle.sayings.proofs.put.called.Reads as reads
-use Rattle.sayings.proofs.put.called.Lts as lts
-use Rattle.sayings.proofs.put.verdict.Reads as verdict-reads
-use Rattle.words.proofs.put.text.Reads as text-reads
 
 -- src/put.rt:39:9
 text-requires : tie.Need-text-requires

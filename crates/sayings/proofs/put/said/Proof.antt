@@ -4,12 +4,6 @@ use Rattle.sayings.specs.Texts.{textOf}
 use borrow.Author.Needs.{needs}
 use Rattle.sayings.proofs.put.said.Statement.{statement}
 use Rattle.sayings.proofs.put.said.Tie as tie
-use Rattle.sayings.proofs.put.said.Reads as reads
-use Rattle.sayings.proofs.put.said.Lts as lts
-use Rattle.sayings.proofs.put.asked.Reads as asked-reads
-use Rattle.sayings.proofs.put.called.Reads as called-reads
-use Rattle.sayings.proofs.put.ticked.Reads as ticked-reads
-use Rattle.sayings.proofs.put.worded.Reads as worded-reads
 
 -- src/put.rt:66:26
 enum-told : tie.Need-enum-told

@@ -4,10 +4,6 @@ use Rattle.words.proofs.Texts.{put-length, put-after}
 use borrow.Author.Needs.{needs}
 use Rattle.sayings.proofs.put.ticked.Statement.{statement}
 use Rattle.sayings.proofs.put.ticked.Tie as tie
-use Rattle.sayings.proofs.put.ticked.Reads as reads
-use Rattle.sayings.proofs.put.ticked.Lts as lts
-use Rattle.sayings.proofs.put.worded.Reads as worded-reads
-use Rattle.words.proofs.put.number.Reads as number-reads
 
 -- src/put.rt:56:9
 number-requires : tie.Need-number-requires

@@ -2,10 +2,6 @@ use borrow.Author.Tests.{eq-eqb, ne-eqb}
 use borrow.Author.Needs.{needs}
 use Rattle.sayings.proofs.put.verdict.Statement.{statement}
 use Rattle.sayings.proofs.put.verdict.Tie as tie
-use Rattle.sayings.proofs.put.verdict.Reads as reads
-use Rattle.sayings.proofs.put.verdict.Lts as lts
-use Rattle.sayings.proofs.put.worded.Reads as worded-reads
-use Rattle.words.proofs.put.text.Reads as text-reads
 
 -- src/put.rt:29:9
 text-requires : tie.Need-text-requires

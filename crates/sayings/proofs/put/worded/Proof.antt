@@ -4,10 +4,6 @@ use Rattle.words.proofs.Texts.{put-length, put-after}
 use borrow.Author.Needs.{needs}
 use Rattle.sayings.proofs.put.worded.Statement.{statement}
 use Rattle.sayings.proofs.put.worded.Tie as tie
-use Rattle.sayings.proofs.put.worded.Reads as reads
-use Rattle.sayings.proofs.put.worded.Lts as lts
-use Rattle.words.proofs.put.number.Reads as number-reads
-use Rattle.words.proofs.put.text.Reads as text-reads
 
 -- src/put.rt:18:9
 text-requires : tie.Need-text-requires

@@ -10,7 +10,7 @@ use Rattle.lists.proofs.Tests.{ltb-elim}
 use Rattle.jobs.specs.declared.Job.{Job}
 use Rattle.edf.proofs.Demand.{byThen-in, byThen-out}
 use Rattle.room.specs.Owed.{jobOwes}
-use Rattle.reasons.specs.Due.{earlier, Until}
+use Rattle.reasons.specs.Until.{earlier, Until}
 
 -- what stays as it is up to one instant stays so up to the earlier of it and another
 pub until-cut : (owed : ℕ → ℕ) (by x till : ℕ) → by < x → by < till → ((E : ℕ) → by ≤ E → E < x → owed E ≡ owed by)
