@@ -6,14 +6,16 @@ use Prim.Native.Nat.{ℕ, suc, _+_, _-_, _*_, _/_, _%_, _≤_, _<_}
 use native.Mathlib.Nat.{le-refl, le-trans, mul-le-mul, div-le-self, div-add-mod', div-lt-iff-lt-mul, mod-lt}
 use native.Mathlib.Omega.{arith}
 use Rattle.lists.specs.Lists.{total, Each}
-use Rattle.lists.proofs.Lists.{each-imp, each-map, total-map}
+use Rattle.lists.proofs.Lists.{each-imp, each-both, each-map, total-map}
 use Rattle.lists.proofs.Tests.{ltb-elim}
 use Rattle.ticks.specs.declared.Instant.{Instant}
 use Rattle.ticks.specs.Ticks.{mostJob, mostFeed}
 use Rattle.feeds.specs.declared.Feed.{Feed}
-use Rattle.feeds.specs.Feeds.{FeedIn}
+use Rattle.feeds.specs.declared.Feeds.{Feeds}
+use Rattle.feeds.specs.Feeds.{FeedIn, live as liveFeeds}
 use Rattle.jobs.specs.declared.Job.{Job}
-use Rattle.jobs.specs.Jobs.{JobIn}
+use Rattle.jobs.specs.declared.Table.{Table}
+use Rattle.jobs.specs.Jobs.{JobIn, live as liveJobs}
 use Rattle.edf.specs.Releases.{gone, next, currentDue}
 use Rattle.edf.specs.Pieces.{jobPiece}
 use Rattle.edf.specs.Owed.{byThen, dueBy, laterCount, laterBy, owedBy}
@@ -23,7 +25,8 @@ use Rattle.edf.proofs.Demand.{byThen-in, byThen-out, laterBy-past, div-mono, fe
 use Rattle.edf.proofs.Tick.{owedBy-split}
 use Rattle.ledger.specs.Reading.{bookFeed, bookFeeds, bookJob, bookOf}
 use Rattle.ledger.specs.InOrder.{InOrder}
-use Rattle.room.specs.Owed.{jobOwes, firstDue, feedOwes, farthest, later, lastOf, lastDue, horizonOf}
+use Rattle.ledger.specs.Pieces.{PieceIn}
+use Rattle.room.specs.Owed.{Ordered, jobOwes, Modest, firstDue, feedOwes, FeedOrdered, farthest, later, lastOf, lastDue, horizonOf}
 
 -- the first deadline is ahead, by a period at most
 pub first-due : (t : ℕ) (f : Feed) → FeedIn f → (t < firstDue t f) × (firstDue t f ≤ t + f .period .0)
@@ -178,3 +181,10 @@ module _ (clock : Instant) (fs : List Feed) (js : List Job) where
   unfolding horizonOf
   horizon-near o =
       (omega (arith, last-beyond .clock), omega (arith, last-near o, o .feeds .short))
+
+-- what a state in order says of the jobs and of the feeds that are added up
+pub jobs-modest : (clock : Instant) (feeds : Feeds) (table : Table) → Ordered clock feeds table → Each Modest (liveJobs table)
+jobs-modest clock feeds table o = each-imp (JobIn clock) Modest (λ j k. k .owed .1) (liveJobs table) (o .order .jobs .each)
+
+pub feeds-ordered : (clock : Instant) (feeds : Feeds) (table : Table) → Ordered clock feeds table → Each (FeedOrdered clock) (liveFeeds feeds)
+feeds-ordered clock feeds table o = each-both FeedIn (PieceIn clock) (liveFeeds feeds) (o .order .feeds .within) (o .order .pieces)

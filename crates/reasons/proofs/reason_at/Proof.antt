@@ -7,34 +7,24 @@ use lib.IntN.{pos, _-ℤ_}
 use mir.Syntax.{w64}
 use mir.ValLaws.{toZ-ofZ}
 use borrow.Author.Needs.{needs}
-use Rattle.lists.proofs.Lists.{each-imp, each-both}
 use Rattle.ticks.specs.Ticks.{mostJob, ticks}
-use Rattle.feeds.specs.Feeds.{FeedIn, live as liveFeeds}
-use Rattle.jobs.specs.Jobs.{JobIn, live as liveJobs}
+use Rattle.feeds.specs.Feeds.{live as liveFeeds}
+use Rattle.jobs.specs.Jobs.{live as liveJobs}
 use Rattle.edf.specs.Book.{Book}
 use Rattle.edf.specs.Owed.{owedBy}
 use Rattle.edf.specs.Margin.{margin}
 use Rattle.edf.proofs.Demand.{byThen-le}
 use Rattle.ledger.specs.Reading.{bookOf}
-use Rattle.ledger.specs.Pieces.{PieceIn}
-use Rattle.room.specs.Owed.{Modest}
+use Rattle.room.proofs.Owed.{jobs-modest, feeds-ordered}
 use Rattle.reasons.proofs.Parts.{parts-make-owed}
 use Rattle.reasons.proofs.reason_at.Statement.{statement}
 use Rattle.reasons.proofs.reason_at.Tie as tie
 
 jobs-owe-requires : tie.Need-jobs-owe-requires
-jobs-owe-requires c κs =
-    let o = c .pre .0 .order in
-    (c .pre .0 .fewJobs, each-imp (JobIn (c .args .clock)) Modest (λ j k. k .owed .1) (liveJobs (c .args .table)) (o .jobs .each))
+jobs-owe-requires c κs = (c .pre .0 .fewJobs, jobs-modest _ _ _ (c .pre .0))
 
 feeds-owe-requires : tie.Need-feeds-owe-requires
-feeds-owe-requires c κs =
-    let start = c .before in
-    let o = start .pre .0 .order in (
-      start .pre .0 .fewFeeds,
-      each-both FeedIn (PieceIn (start .args .clock)) (liveFeeds (start .args .feeds)) (o .feeds .within) (o .pieces),
-      start .pre .2,
-    )
+feeds-owe-requires c κs = let p = c .before .pre in (p .0 .fewFeeds, feeds-ordered _ _ _ (p .0), p .2)
 
 job-owes-requires : tie.Need-job-owes-requires
 job-owes-requires c κs = search needs

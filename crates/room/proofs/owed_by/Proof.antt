@@ -2,31 +2,20 @@
 use mathlib.Core.Path.{_≡_, ap}
 use Prim.Native.Nat.{_+_}
 use native.Mathlib.Omega.{arith}
-use Rattle.lists.proofs.Lists.{each-imp, each-both}
 use Rattle.ticks.specs.Ticks.{ticks}
-use Rattle.feeds.specs.Feeds.{FeedIn, live as liveFeeds}
-use Rattle.jobs.specs.Jobs.{JobIn, live as liveJobs}
+use Rattle.feeds.specs.Feeds.{live as liveFeeds}
+use Rattle.jobs.specs.Jobs.{live as liveJobs}
 use Rattle.edf.specs.Owed.{owedBy}
-use Rattle.ledger.specs.Pieces.{PieceIn}
 use Rattle.ledger.specs.Reading.{bookOf}
-use Rattle.room.specs.Owed.{Modest}
-use Rattle.room.proofs.Owed.{owed-by-is}
+use Rattle.room.proofs.Owed.{owed-by-is, jobs-modest, feeds-ordered}
 use Rattle.room.proofs.owed_by.Statement.{statement}
 use Rattle.room.proofs.owed_by.Tie as tie
 
 jobs-owe-requires : tie.Need-jobs-owe-requires
-jobs-owe-requires c κs =
-    let o = c .pre .0 .order in
-    (c .pre .0 .fewJobs, each-imp (JobIn (c .args .clock)) Modest (λ j k. k .owed .1) (liveJobs (c .args .table)) (o .jobs .each))
+jobs-owe-requires c κs = (c .pre .0 .fewJobs, jobs-modest _ _ _ (c .pre .0))
 
 feeds-owe-requires : tie.Need-feeds-owe-requires
-feeds-owe-requires c κs =
-    let start = c .before in
-    let o = start .pre .0 .order in (
-      start .pre .0 .fewFeeds,
-      each-both FeedIn (PieceIn (start .args .clock)) (liveFeeds (start .args .feeds)) (o .feeds .within) (o .pieces),
-      start .pre .1,
-    )
+feeds-owe-requires c κs = let p = c .before .pre in (p .0 .fewFeeds, feeds-ordered _ _ _ (p .0), p .1)
 
 add-t7 : tie.Need-add-t7
 add-t7 c = omega (arith, c .before .jobs-owe .ensures .1, c .feeds-owe .ensures .1)

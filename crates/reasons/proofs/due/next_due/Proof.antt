@@ -1,14 +1,12 @@
 -- `reasons::due::next_due` meets its contract: nothing of the jobs and nothing of the feeds comes due in between.
 -- Assumes nothing.
 use Rattle.lists.specs.Lists.{total}
-use Rattle.lists.proofs.Lists.{each-both}
-use Rattle.feeds.specs.Feeds.{FeedIn, live as liveFeeds}
+use Rattle.feeds.specs.Feeds.{live as liveFeeds}
 use Rattle.jobs.specs.Jobs.{live as liveJobs}
 use Rattle.edf.specs.Owed.{owedBy}
-use Rattle.ledger.specs.Pieces.{PieceIn}
 use Rattle.ledger.specs.Reading.{bookOf}
 use Rattle.room.specs.Owed.{jobOwes, feedOwes}
-use Rattle.room.proofs.Owed.{owed-by-is}
+use Rattle.room.proofs.Owed.{owed-by-is, feeds-ordered}
 use Rattle.reasons.proofs.Until.{until-both}
 use Rattle.reasons.proofs.due.next_due.Statement.{statement}
 use Rattle.reasons.proofs.due.next_due.Tie as tie
@@ -18,13 +16,8 @@ jobs-due-after-requires c κs = (c .pre .0 .fewJobs, c .pre .2)
 
 feeds-due-after-requires : tie.Need-feeds-due-after-requires
 feeds-due-after-requires c κs =
-    let start = c .before in
-    let o = start .pre .0 .order in (
-      start .pre .0 .fewFeeds,
-      each-both FeedIn (PieceIn (start .args .clock)) (liveFeeds (start .args .feeds)) (o .feeds .within) (o .pieces),
-      start .pre .1,
-      c .jobs-due-after .ensures .after,
-    )
+    let p = c .before .pre in
+    (p .0 .fewFeeds, feeds-ordered _ _ _ (p .0), p .1, c .jobs-due-after .ensures .after)
 
 returns : tie.Need-returns
 returns c =
