@@ -212,35 +212,41 @@ fn runs(program: &str, jobs: u32) {
     println!("{jobs} jobs, 4 feeds: {:.0} ticks a second, plain {:.0}, ratio {:.2}.", 1e9 / program, 1e9 / own, program / own);
 }
 
-/// Feeds of one period and as many offsets, so that something is due at nearly every instant, and one of the longest.
-fn dense(count: u32, period: u32) -> Vec<u32> {
+/// Feeds of one period and as many offsets, so that something is due at nearly every instant, and one of the longest
+/// period that wants this much.
+fn dense(count: u32, period: u32, rest: u32) -> Vec<u32> {
     let mut list: Vec<u32> = (0..count).flat_map(|i| [period, 1, i]).collect();
-    list.extend([40_320, 1, 40_319]);
+    list.extend([40_320, rest, 40_319]);
     list
 }
 
-/// Asks that look far and at many instants: the longest round behind the longest lead.
+/// Asks that look far and at many instants: the longest round behind the longest lead, lightly loaded and nearly full.
 fn slowest() {
     let mut worst = (0.0, 0.0, String::new());
-    for (count, period) in [(0, 1), (1, 2), (3, 4), (7, 8), (15, 16), (15, 18), (15, 20)] {
-        let mut state = desk::open(&dense(count, period), 0).desk;
-        for number in 1..=63 {
-            state = state.ask(number, 1, 65_536 - number).desk;
-        }
-        let began = now();
-        let answer = black_box(state).ask(900, 1, 65_536);
-        let library = (now() - began) / 1e6;
-        let mut other = state;
-        let began = now();
-        assert_eq!(plain::ask(&mut other, 900, 1, 65_536), answer.refusal);
-        let own = (now() - began) / 1e6;
-        if library > worst.0 {
-            let jobs = state.table.count;
-            worst = (library, own, format!("{count} feeds of period {period} and one of 40,320, {jobs} jobs before it, answer {}", answer.refusal));
+    for (count, period) in [(0, 1), (1, 2), (3, 4), (7, 8), (14, 16), (15, 16), (15, 18), (15, 20)] {
+        let free = 40_320 - 40_320 / period * count;
+        for rest in [1, free / 2, free * 7 / 8, free - 64, free - 1, free] {
+            let rest = rest.max(1);
+            let mut state = desk::open(&dense(count, period, rest), 0).desk;
+            for number in 1..=63 {
+                state = state.ask(number, 1, 65_536 - number).desk;
+            }
+            let began = now();
+            let answer = black_box(state).ask(900, 1, 65_536);
+            let library = (now() - began) / 1e6;
+            let mut other = state;
+            let began = now();
+            assert_eq!(plain::ask(&mut other, 900, 1, 65_536), answer.refusal);
+            let own = (now() - began) / 1e6;
+            if library > worst.0 {
+                let jobs = state.table.count;
+                let feeds = format!("{count} feeds of period {period} and one of 40,320 that wants {rest}");
+                worst = (library, own, format!("{feeds}, {jobs} jobs before it, answer {}", answer.refusal));
+            }
         }
     }
     let (library, own, name) = worst;
-    println!("\nThe slowest ask found: {library:.0} ms, plain {own:.0} ms, ratio {:.2} ({name}).", library / own);
+    println!("\nThe slowest ask found: {library:.2} ms, plain {own:.2} ms, ratio {:.2} ({name}).", library / own);
 }
 
 fn main() {

@@ -1,5 +1,5 @@
-//! A plain hand-written desk for comparison: the same checks of the state and the same walk over the instants at which
-//! something is due, as one writes them in Rust without proofs. It works on a borrowed state and copies nothing.
+//! A plain hand-written desk for comparison: the same checks of the state and the same walk back from the far end, as one
+//! writes them in Rust without proofs. It works on a borrowed state and copies nothing.
 
 use crate::desk::{Desk, Feed, Job};
 
@@ -95,20 +95,6 @@ fn owed_by(desk: &Desk, by: u64) -> u64 {
     jobs + feeds
 }
 
-fn next_due(desk: &Desk, by: u64, till: u64) -> u64 {
-    let mut next = till;
-    for job in jobs_of(desk) {
-        if job.deadline > by {
-            next = next.min(job.deadline);
-        }
-    }
-    for feed in feeds_of(desk) {
-        let due = first_due(feed, desk.clock);
-        next = next.min(if by < due { due } else { by + feed.period - (by - due) % feed.period });
-    }
-    next
-}
-
 fn fits(desk: &Desk) -> bool {
     let jobs = jobs_of(desk).iter().map(|job| job.deadline).max().unwrap_or(0);
     let feeds = feeds_of(desk).iter().map(|feed| first_due(feed, desk.clock)).max().unwrap_or(0);
@@ -117,12 +103,13 @@ fn fits(desk: &Desk) -> bool {
         None => return false,
     };
     let horizon = desk.clock.max(jobs).max(feeds) + round;
-    let mut by = desk.clock;
-    while by < horizon {
-        if by - desk.clock < owed_by(desk, by) {
+    let mut end = horizon;
+    while desk.clock + 1 < end {
+        let owed = owed_by(desk, end - 1);
+        if end - 1 - desk.clock < owed {
             return false;
         }
-        by = next_due(desk, by, horizon);
+        end = desk.clock + owed;
     }
     true
 }
