@@ -19,3 +19,4 @@ pub mod Signed
 pub mod Margin
 pub mod Promises
 pub mod Examples
+pub mod Ahead

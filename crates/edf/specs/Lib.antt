@@ -10,5 +10,6 @@ pub mod Steps
 pub mod Order
 pub mod Calls
 pub mod Load
+pub mod Ahead
 pub mod Margin
 pub mod Kept
