@@ -4,21 +4,21 @@ use mathlib.Core.Path.{_≡_, refl, sym, ap, _∙_, subst}
 use mathlib.Core.Logic.{_⊎_, inl, inr}
 use mathlib.Core.Bool.{Bool, true, false, cond}
 use mathlib.Core.List.{List, [], _∷_, map}
-use Prim.Native.Nat.{ℕ, zero, suc, _+_, _-_, _≤_, _<_}
+use Prim.Native.Nat.{ℕ, suc, _+_, _-_, _≤_, _<_}
 use native.Mathlib.Omega.{arith}
 use native.Mathlib.Decide.{decLe}
 use lib.Dec.{T, ltb, eqb}
-use Rattle.lists.specs.Lists.{total, Each, Some, keep, Pairs}
+use Rattle.lists.specs.Lists.{total, Some, Pairs}
 use Rattle.lists.proofs.Tests.{false-not-true, ltb-elim, eqb-elim}
-use Rattle.lists.proofs.Lists.{each, each-imp, each-both, some-imp, some-both, some-get, some-of-total, total-mono, total-same, total-zero, total-add, total-keep, total-falls, total-map}
-use Rattle.edf.specs.Book.{Feed, Job, Book, Who, job, feed, same}
+use Rattle.lists.proofs.Lists.{each, each-imp, each-both, some-imp, some-both, some-get, some-of-total, total-mono, total-same, total-add, total-keep, total-falls, total-map}
+use Rattle.edf.specs.Book.{Feed, Book, Who, job, feed, same}
 use Rattle.edf.specs.Releases.{gone, currentDue}
 use Rattle.edf.specs.Pieces.{Piece, jobPiece, currentPiece, atHand}
 use Rattle.edf.specs.Step.{sooner, owing, serveJob, serveFeed, serve, turned, turnFeed, turn, stepBy, step, runner, foremost}
 use Rattle.edf.specs.Order.{FeedInOrder, InOrder}
 use Rattle.edf.specs.Load.{Sound}
 use Rattle.edf.specs.Ahead.{part, ahead, brings}
-use Rattle.edf.proofs.Names.{same-elim, same-refl}
+use Rattle.edf.proofs.Names.{same-refl}
 use Rattle.edf.proofs.Releases.{since-suc}
 use Rattle.edf.proofs.Demand.{turned-released, turned-over, turned-kept}
 use Rattle.edf.proofs.Runner.{Best, Nothing, foremost-best, sooner-trans, runner-edf}

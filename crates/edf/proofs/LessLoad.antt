@@ -45,7 +45,7 @@ unfolding Light
 less-is-light a b h l L = omega (arith, feeds-stretch-alike L (a .feeds) (b .feeds) (h .feeds), l L)
 
 -- elements matched by number, no two of the first list of one number, each weighing no more than its match
-matched : (F G : Job → ℕ) (js ks : List Job) → ((n : ℕ) → total (λ j. eq n (j .number)) js ≤ 1)
+pub matched : (F G : Job → ℕ) (js ks : List Job) → ((n : ℕ) → total (λ j. eq n (j .number)) js ≤ 1)
     → Each (λ j. Some (λ k. (j .number ≡ k .number) × (F j ≤ G k)) ks) js
     → total F js ≤ total G ks
 matched F G js ks once h =

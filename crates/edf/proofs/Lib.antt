@@ -20,3 +20,4 @@ pub mod Margin
 pub mod Promises
 pub mod Examples
 pub mod Ahead
+pub mod Finish

@@ -11,5 +11,6 @@ pub mod Order
 pub mod Calls
 pub mod Load
 pub mod Ahead
+pub mod Finish
 pub mod Margin
 pub mod Kept
