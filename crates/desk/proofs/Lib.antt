@@ -7,5 +7,6 @@ pub mod Reachable
 pub mod Shadow
 pub mod Splits
 pub mod Promises
+pub mod Finish
 pub mod Reports
 pub mod Examples

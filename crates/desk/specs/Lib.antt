@@ -5,4 +5,5 @@ pub mod Calls
 pub mod Asking
 pub mod Runs
 pub mod Kept
+pub mod Finish
 pub mod Examples
