@@ -1,5 +1,5 @@
-// Whether everything fits: what is owed by an instant, the next instant at which something is due, how far one has to
-// look, and the walk that asks at each whether there is time enough.
+// Whether everything fits: what is owed by an instant, how far one has to look, and the walk back from there that asks
+// whether there is time enough.
 // It must not know refusals, nor the step.
 use feeds::Feed;
 use feeds::Feeds;
