@@ -1,7 +1,6 @@
 //! Times of the calls over the library, each beside a plain hand-written desk in the same run.
 
-#[path = "../examples/rust/desk.rs"]
-#[allow(dead_code)]
+#[path = "../include/desk.rs"]
 mod desk;
 mod plain;
 
@@ -79,7 +78,7 @@ fn feeds(count: usize) -> Vec<u32> {
 
 /// A desk with so many feeds and jobs.
 fn with_jobs(feed_count: usize, jobs: u32) -> Desk {
-    let mut desk = desk::open(&feeds(feed_count), 0).desk;
+    let mut desk = Desk::open(&feeds(feed_count), 0).desk;
     for number in 1..=jobs {
         let answer = desk.ask(number, 20, 6_000 + 200 * number);
         assert_eq!(answer.refusal, 0, "{feed_count} feeds, job {number}");
@@ -134,7 +133,7 @@ fn calls(feed_count: usize, jobs: u32) {
 /// 86,400 ticks with a request every 50, the answers compared; ticks a second of both.
 fn day() {
     let requests = |tick: u64| (tick as u32 / 50 % 60 + 1, 10 + tick as u32 % 30, 300 + tick as u32 % 4_000);
-    let mut one = desk::open(&feeds(4), 0).desk;
+    let mut one = Desk::open(&feeds(4), 0).desk;
     let mut two = one;
     let began = now();
     let mut named = Vec::new();
@@ -188,7 +187,7 @@ fn runs(program: &str, jobs: u32) {
         asks += &format!("feed {} {} {}\n", feed[0], feed[1], feed[2]);
     }
     asks += "go 0\n";
-    let mut desk = desk::open(&feeds(4), 0).desk;
+    let mut desk = Desk::open(&feeds(4), 0).desk;
     for number in 1..=jobs {
         asks += &format!("ask {number} 900 65536\n");
         desk = desk.ask(number, 900, 65_536).desk;
@@ -227,7 +226,7 @@ fn slowest() {
         let free = 40_320 - 40_320 / period * count;
         for rest in [1, free / 2, free * 7 / 8, free - 64, free - 1, free] {
             let rest = rest.max(1);
-            let mut state = desk::open(&dense(count, period, rest), 0).desk;
+            let mut state = Desk::open(&dense(count, period, rest), 0).desk;
             for number in 1..=63 {
                 state = state.ask(number, 1, 65_536 - number).desk;
             }

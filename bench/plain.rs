@@ -2,10 +2,7 @@
 //! writes them in Rust without proofs. It works on a borrowed state and copies nothing.
 
 use crate::desk::{Desk, Feed, Job};
-
-const LAST: u64 = 1 << 40;
-const MOST_JOB: u64 = 65_536;
-const MOST_FEED: u64 = 40_320;
+use crate::desk::{LAST_INSTANT, LONGEST_LEAD, LONGEST_PERIOD, LONGEST_ROUND, LONGEST_WORK, MOST_FEEDS, MOST_JOBS};
 
 fn gcd(a: u64, b: u64) -> u64 {
     if b == 0 { a } else { gcd(b, a % b) }
@@ -32,7 +29,7 @@ fn round_of(feeds: &[Feed]) -> Option<u64> {
     let mut round = 1;
     for feed in feeds {
         round = round / gcd(round, feed.period) * feed.period;
-        if round > MOST_FEED {
+        if round > LONGEST_ROUND {
             return None;
         }
     }
@@ -40,11 +37,11 @@ fn round_of(feeds: &[Feed]) -> Option<u64> {
 }
 
 fn feed_within(feed: &Feed) -> bool {
-    (1..=MOST_FEED).contains(&feed.period) && (1..=MOST_FEED).contains(&feed.work) && feed.offset < feed.period
+    (1..=LONGEST_PERIOD).contains(&feed.period) && (1..=LONGEST_PERIOD).contains(&feed.work) && feed.offset < feed.period
 }
 
 fn feeds_in_order(desk: &Desk) -> bool {
-    if desk.feeds.count > 16 {
+    if desk.feeds.count > MOST_FEEDS {
         return false;
     }
     let feeds = feeds_of(desk);
@@ -62,16 +59,16 @@ fn feeds_in_order(desk: &Desk) -> bool {
 }
 
 fn jobs_in_order(desk: &Desk) -> bool {
-    if desk.table.count > 64 {
+    if desk.table.count > MOST_JOBS {
         return false;
     }
     let jobs = jobs_of(desk);
     let within = |job: &Job| {
         job.number != 0
-            && (1..=MOST_JOB).contains(&job.owed)
+            && (1..=LONGEST_WORK).contains(&job.owed)
             && job.deadline > desk.clock
-            && job.deadline - desk.clock <= MOST_JOB
-            && job.deadline <= LAST
+            && job.deadline - desk.clock <= LONGEST_LEAD
+            && job.deadline <= LAST_INSTANT
     };
     let empty = |job: &Job| job.number == 0 && job.owed == 0 && job.deadline == 0;
     jobs.iter().all(within)
@@ -80,7 +77,7 @@ fn jobs_in_order(desk: &Desk) -> bool {
 }
 
 fn in_order(desk: &Desk) -> bool {
-    desk.clock <= LAST && feeds_in_order(desk) && jobs_in_order(desk)
+    desk.clock <= LAST_INSTANT && feeds_in_order(desk) && jobs_in_order(desk)
 }
 
 fn owed_by(desk: &Desk, by: u64) -> u64 {
@@ -122,16 +119,16 @@ pub fn ask(desk: &mut Desk, number: u32, work: u32, lead: u32) -> u32 {
     if number == 0 {
         return 1;
     }
-    if !(1..=MOST_JOB).contains(&work) || !(1..=MOST_JOB).contains(&lead) {
+    if !(1..=LONGEST_WORK).contains(&work) || !(1..=LONGEST_LEAD).contains(&lead) {
         return 2;
     }
-    if desk.clock + lead > LAST {
+    if desk.clock + lead > LAST_INSTANT {
         return 3;
     }
     if jobs_of(desk).iter().any(|job| job.number == number) {
         return 4;
     }
-    if desk.table.count == 64 {
+    if desk.table.count == MOST_JOBS {
         return 5;
     }
     let at = desk.table.count;
@@ -169,7 +166,7 @@ pub fn step(desk: &mut Desk) -> (u32, u32, u32) {
     if !in_order(desk) {
         return (13, 0, 0);
     }
-    if desk.clock == LAST {
+    if desk.clock == LAST_INSTANT {
         return (3, 0, 0);
     }
     tick(desk)

@@ -1,8 +1,13 @@
-/* The export desk for C: every call of the library `desk_c` (libdesk_c.a).
+/* The export desk for C and C++: every call of the library `desk_c` (libdesk_c.a).
  *
- * A state is a plain value: each call takes one and hands the next one back, and nothing is kept between calls.
+ * A state is a plain value: each call takes one and hands the next one back. A refused call hands back the state that it
+ * was given. Any state may be handed in, also one that no call made: one that is not in order is refused with 13.
  * Lists are lent for the length of the call; a list of length 0 still needs a place that is not null.
- * Any state may be handed in, also one that no call made: a state that is not in order is refused with 13. */
+ *
+ * Nothing is kept between calls and there is no global state: any number of threads may call at once, each with its own
+ * state. A call takes 8 to 18 KB of stack, the states that go in and come back by value among it, and no other memory.
+ *
+ * Beside each call stand its refusals, in the order in which they are looked for: the first that holds is given. */
 #ifndef DESK_H
 #define DESK_H
 
@@ -13,11 +18,60 @@
 extern "C" {
 #endif
 
-#define DESK_FEEDS 16
-#define DESK_JOBS 64
+/* One more with every change of a struct, a call or a number below. */
+#define DESK_VERSION 1
+
+/* An instant is a reading of the clock, a whole number of ticks; this is the last one, 2 to the 40th. */
+#define DESK_LAST_INSTANT UINT64_C(1099511627776)
+
+/* The other limits. Lengths are in ticks; each goes from 1, but for an offset, which goes from 0 to its period less 1. */
+enum {
+    DESK_MOST_JOBS = 64,          /* live at once */
+    DESK_MOST_FEEDS = 16,
+    DESK_LONGEST_WORK = 65536,    /* of a job */
+    DESK_LONGEST_LEAD = 65536,    /* of a job */
+    DESK_LONGEST_PERIOD = 40320,  /* of a feed; its work is within the same limit */
+    DESK_LONGEST_ROUND = 40320    /* the least common multiple of the periods, 1 with no feeds */
+};
+
+/* How many numbers or bytes there are of each thing in a lent list. */
+enum {
+    DESK_NUMBERS_A_FEED = 3,      /* in the list of an opening: period, work, offset */
+    DESK_NUMBERS_A_JOB = 3,       /* in the buffer of a list: number, owed, deadline */
+    DESK_BYTES_OF_FRONT = 84,     /* of a mesh file: its header of 80 and its triangle count */
+    DESK_BYTES_A_JOB_LABEL = 12,  /* the job's number, big-endian in 4, and its label in 8 */
+    DESK_BYTES_A_FEED_LABEL = 8
+};
+
+/* What an answer's `refusal` says. */
+enum {
+    DESK_YES = 0,
+    DESK_NUMBER_ZERO = 1,         /* job number 0 */
+    DESK_OUTSIDE = 2,             /* a length or offset outside its limits */
+    DESK_PAST_LAST = 3,           /* the clock, or the deadline, would lie past the last instant */
+    DESK_NUMBER_LIVE = 4,         /* the number is live */
+    DESK_FULL = 5,                /* 64 jobs are live */
+    DESK_DOES_NOT_FIT = 6,        /* with it, something promised could not be done in time */
+    DESK_NOTHING_THERE = 7,       /* no such live job; no such feed, or its current piece owes nothing or hasn't come */
+    DESK_TOO_MANY_FEEDS = 8,      /* more than 16 feeds */
+    DESK_ROUND_TOO_LONG = 9,      /* round above 40,320 */
+    DESK_TOO_MUCH_LOAD = 10,      /* in a round the feeds alone want more ticks than it has */
+    DESK_SHORT_BUFFER = 11,       /* buffer shorter than three numbers a live job */
+    DESK_NOT_WHOLE_FEEDS = 12,    /* feed list length not a multiple of 3 */
+    DESK_NOT_IN_ORDER = 13,       /* state not in order */
+    DESK_SHORT_FRONT = 15,        /* fewer than 84 bytes lent of a mesh file */
+    DESK_WRONG_LENGTH = 16,       /* a mesh file's length is not 84 and 50 for each of its triangles */
+    DESK_NO_TRIANGLES = 17        /* a mesh without triangles */
+};
+
+/* Whom a tick went to. */
+enum { DESK_IDLE = 0, DESK_JOB = 1, DESK_FEED = 2 };
+
+/* Which lent list holds a label. */
+enum { DESK_JOB_LABELS = 1, DESK_FEED_LABELS = 2 };
 
 /* A feed releases a piece of `work` ticks at each instant that leaves the remainder `offset` when divided by `period`;
- * `owes` is what the piece that came last still wants. Lengths are in ticks. */
+ * `owes` is what the current piece still owes, 0 where none has come. */
 typedef struct DeskFeed {
     uint64_t period;
     uint64_t work;
@@ -28,7 +82,7 @@ typedef struct DeskFeed {
 /* The feeds stand at the front, in list order; the places after them are all zero. */
 typedef struct DeskFeeds {
     size_t count;
-    DeskFeed feeds[DESK_FEEDS];
+    DeskFeed feeds[DESK_MOST_FEEDS];
 } DeskFeeds;
 
 /* A job still owes `owed` ticks before the instant `deadline`. */
@@ -41,38 +95,17 @@ typedef struct DeskJob {
 /* The live jobs stand at the front, in the order of their yes; the places after them are all zero. */
 typedef struct DeskTable {
     size_t count;
-    DeskJob jobs[DESK_JOBS];
+    DeskJob jobs[DESK_MOST_JOBS];
 } DeskTable;
 
-/* The state of a box. */
+/* The state of a box. All zero is the empty state: clock 0, no feeds, no jobs. */
 typedef struct Desk {
     uint64_t clock;
     DeskFeeds feeds;
     DeskTable table;
 } Desk;
 
-/* What an answer's `refusal` says. */
-enum {
-    DESK_YES = 0,
-    DESK_NUMBER_ZERO = 1,    /* job number 0 */
-    DESK_OUTSIDE = 2,        /* a length or offset outside its limits */
-    DESK_PAST_LAST = 3,      /* the clock, or a deadline, would pass its last instant, 2 to the 40th */
-    DESK_NUMBER_LIVE = 4,    /* the number is live */
-    DESK_FULL = 5,           /* 64 jobs are live */
-    DESK_DOES_NOT_FIT = 6,   /* taking it, something promised would be late */
-    DESK_NOTHING_THERE = 7,  /* no such live job; no such feed, or its current piece owes nothing */
-    DESK_TOO_MANY_FEEDS = 8, /* more than 16 feeds */
-    DESK_ROUND_TOO_LONG = 9, /* least common multiple of the periods above 40,320 */
-    DESK_TOO_MUCH_LOAD = 10, /* the feeds alone want more than there is */
-    DESK_SHORT_BUFFER = 11,  /* buffer shorter than three numbers a live job */
-    DESK_NOT_THREE = 12,     /* feed list length not a multiple of 3 */
-    DESK_NOT_IN_ORDER = 13,  /* state not in order */
-    DESK_SHORT_FRONT = 15,   /* fewer than 84 bytes lent of a mesh file */
-    DESK_WRONG_LENGTH = 16,  /* a mesh file's length is not 84 and 50 for each of its triangles */
-    DESK_NO_TRIANGLES = 17   /* a mesh without triangles */
-};
-
-/* The state that a call hands back, the one handed in where it is refused (the empty one for an opening). */
+/* The state that a call hands back, and its refusal or DESK_YES. A refused opening hands back the empty state. */
 typedef struct DeskAnswer {
     Desk desk;
     uint32_t refusal;
@@ -93,11 +126,8 @@ typedef struct DeskReason {
     int64_t margin;
 } DeskReason;
 
-/* Whom a tick went to. */
-enum { DESK_IDLE = 0, DESK_JOB = 1, DESK_FEED = 2 };
-
-/* `number` is the job's number or the feed's position, `owes` what that piece of work still owes after the tick;
- * kind, number and owes are 0 where the step is refused. */
+/* Whom the tick went to: `number` is the job's number or the feed's position, `owes` what that piece of work still owes
+ * after the tick, before any release. Idle, and kind, number and owes 0, where the step is refused. */
 typedef struct DeskStepped {
     Desk desk;
     uint32_t refusal;
@@ -112,43 +142,102 @@ typedef struct DeskListed {
     uint32_t count;
 } DeskListed;
 
-/* Which lent list holds the label (1 the job labels, 2 the feed labels), from which byte, and how many bytes.
- * List 1, from 0, length 0 where there is none. */
+/* Which lent list holds the label, from which byte, and how many bytes: DESK_JOB_LABELS, 0 and 0 where there is none. */
 typedef struct DeskLabel {
     uint32_t list;
     size_t from;
     size_t length;
 } DeskLabel;
 
-/* Opens at the instant `start` with `length` numbers of feeds, three a feed: period, work, offset. */
+/* The layout, on every processor: the library and whoever calls it have to mean the same bytes. */
+#ifdef __cplusplus
+#define DESK_HOLDS static_assert
+#else
+#define DESK_HOLDS _Static_assert
+#endif
+#define DESK_SIZE(type, bytes) DESK_HOLDS(sizeof(type) == (bytes), "the size of " #type)
+#define DESK_PLACE(type, field, at) DESK_HOLDS(offsetof(type, field) == (at), "the place of " #field " in " #type)
+
+DESK_SIZE(size_t, 8);
+DESK_SIZE(DeskFeed, 32);
+DESK_PLACE(DeskFeed, period, 0);
+DESK_PLACE(DeskFeed, work, 8);
+DESK_PLACE(DeskFeed, offset, 16);
+DESK_PLACE(DeskFeed, owes, 24);
+DESK_SIZE(DeskFeeds, 520);
+DESK_PLACE(DeskFeeds, count, 0);
+DESK_PLACE(DeskFeeds, feeds, 8);
+DESK_SIZE(DeskJob, 24);
+DESK_PLACE(DeskJob, number, 0);
+DESK_PLACE(DeskJob, owed, 8);
+DESK_PLACE(DeskJob, deadline, 16);
+DESK_SIZE(DeskTable, 1544);
+DESK_PLACE(DeskTable, count, 0);
+DESK_PLACE(DeskTable, jobs, 8);
+DESK_SIZE(Desk, 2072);
+DESK_PLACE(Desk, clock, 0);
+DESK_PLACE(Desk, feeds, 8);
+DESK_PLACE(Desk, table, 528);
+DESK_SIZE(DeskAnswer, 2080);
+DESK_PLACE(DeskAnswer, desk, 0);
+DESK_PLACE(DeskAnswer, refusal, 2072);
+DESK_SIZE(DeskReason, 48);
+DESK_PLACE(DeskReason, refusal, 0);
+DESK_PLACE(DeskReason, at, 8);
+DESK_PLACE(DeskReason, jobs, 16);
+DESK_PLACE(DeskReason, feeds, 24);
+DESK_PLACE(DeskReason, job, 32);
+DESK_PLACE(DeskReason, margin, 40);
+DESK_SIZE(DeskStepped, 2096);
+DESK_PLACE(DeskStepped, desk, 0);
+DESK_PLACE(DeskStepped, refusal, 2072);
+DESK_PLACE(DeskStepped, kind, 2076);
+DESK_PLACE(DeskStepped, number, 2080);
+DESK_PLACE(DeskStepped, owes, 2088);
+DESK_SIZE(DeskListed, 8);
+DESK_PLACE(DeskListed, refusal, 0);
+DESK_PLACE(DeskListed, count, 4);
+DESK_SIZE(DeskLabel, 24);
+DESK_PLACE(DeskLabel, list, 0);
+DESK_PLACE(DeskLabel, from, 8);
+DESK_PLACE(DeskLabel, length, 16);
+
+#undef DESK_PLACE
+#undef DESK_SIZE
+#undef DESK_HOLDS
+
+/* Opens at the instant `start` with a list of `length` numbers, three a feed: period, work, offset.
+ * 12, 8, 3 (`start`), 2, 9, 10. */
 DeskAnswer desk_open(const uint32_t *list, size_t length, uint64_t start);
 
-/* Asks for a job: taken exactly if it, everything promised and every piece to come can still be done in time. */
+/* Asks for a job of `work` ticks within `lead` ticks from now: taken exactly if it, everything promised and every piece
+ * to come can still be done in time. 13, 1, 2, 3 (its deadline), 4, 5, 6. */
 DeskAnswer desk_ask(Desk desk, uint32_t number, uint32_t work, uint32_t lead);
 
 /* Asks for a job by its mesh file itself, a binary STL: `head` is the `lent` bytes from the front of the file, 84 or
  * more, and `size` the length of the whole file. The work goes by the triangle count that stands there: to 9,999 it is
- * 4 ticks, to 99,999 16, to 999,999 120, to 9,999,999 900, to 99,999,999 8,000, and above that 65,536. */
+ * 4 ticks, to 99,999 16, to 999,999 120, to 9,999,999 900, to 99,999,999 8,000, and above that 65,536. The ordinary ask
+ * follows. 13, 15, 16, 17, 1, 2, 3 (its deadline), 4, 5, 6. */
 DeskAnswer desk_ask_mesh(Desk desk, const uint8_t *head, size_t lent, uint64_t size, uint32_t number, uint32_t lead);
 
-/* Tells why a job would be refused, or how near it comes to that; nothing is changed. */
+/* Tells why a job would be refused, or how near it comes to that; nothing is changed. 13, 1, 2, 3, 4, 5, 6, as asking. */
 DeskReason desk_why(Desk desk, uint32_t number, uint32_t work, uint32_t lead);
 
-/* One step of one tick. */
+/* One step of one tick: the ready work with the earliest deadline gets it. 13, 3 (the clock is at its last instant). */
 DeskStepped desk_step(Desk desk);
 
-/* Ends a live job before its time. */
+/* Ends a live job before its time. 13, 7. */
 DeskAnswer desk_end(Desk desk, uint32_t number);
 
-/* Rests the current piece of the feed at a position, 1 to 16. */
+/* Rests a feed, by its position from 1 to 16: its current piece owes nothing, the next comes at its time. 13, 7. */
 DeskAnswer desk_rest(Desk desk, uint32_t position);
 
-/* Writes the live jobs into the front of the buffer, three numbers a job (number, owed, deadline), earliest deadline
- * first; the rest of the buffer is untouched. */
+/* Writes the live jobs into the front of a buffer of `length` numbers, three a job (number, owed, deadline), earliest
+ * deadline first and lower number first on equal ones; the rest of the buffer is untouched. 13, 11. */
 DeskListed desk_list(Desk desk, uint64_t *buffer, size_t length);
 
-/* Finds the label of the one that the next step would name. Job labels are records of 12 bytes, the number big-endian
- * in 4 and the label in 8; feed labels are 8 bytes a position. */
+/* Finds the label of the one that the next step would name, nobody at the last instant or out of order: the label in the
+ * first whole record of its number, or that at its position. Lengths are in bytes. No refusals. */
 DeskLabel desk_label(Desk desk, const uint8_t *jobs, size_t jobs_length, const uint8_t *feeds, size_t feeds_length);
 
 #ifdef __cplusplus

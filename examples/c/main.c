@@ -27,7 +27,7 @@ static void asked_why(Desk desk, uint32_t number, uint32_t work, uint32_t lead) 
 
 /* The front of a file of 12,345 triangles (0x3039), behind an empty header. */
 static Desk asked_with_mesh(Desk desk, uint64_t size, uint32_t number, uint32_t lead) {
-    static const uint8_t head[84] = {[80] = 0x39, [81] = 0x30};
+    static const uint8_t head[DESK_BYTES_OF_FRONT] = {[80] = 0x39, [81] = 0x30};
     return told(number, desk_ask_mesh(desk, head, sizeof head, size, number, lead));
 }
 
@@ -45,8 +45,8 @@ static Desk stepped(Desk desk) {
 }
 
 static void listed(Desk desk) {
-    uint64_t buffer[3 * DESK_JOBS];
-    DeskListed list = desk_list(desk, buffer, 3 * DESK_JOBS);
+    uint64_t buffer[DESK_NUMBERS_A_JOB * DESK_MOST_JOBS];
+    DeskListed list = desk_list(desk, buffer, DESK_NUMBERS_A_JOB * DESK_MOST_JOBS);
     for (uint32_t i = 0; i < list.count; i++)
         printf("live: job %llu owes %llu by %llu\n", (unsigned long long)buffer[3 * i],
                (unsigned long long)buffer[3 * i + 1], (unsigned long long)buffer[3 * i + 2]);
@@ -56,7 +56,7 @@ static void labelled(Desk desk) {
     static const uint8_t jobs[] = "\0\0\0\1pelvis  \0\0\0\7skull   ";
     static const uint8_t feeds[] = "printer1printer2";
     DeskLabel label = desk_label(desk, jobs, sizeof jobs - 1, feeds, sizeof feeds - 1);
-    const uint8_t *list = label.list == 1 ? jobs : feeds;
+    const uint8_t *list = label.list == DESK_JOB_LABELS ? jobs : feeds;
     printf("next: \"%.*s\"\n", (int)label.length, (const char *)list + label.from);
 }
 
@@ -89,7 +89,7 @@ int main(void) {
     desk = asked_with_mesh(desk, 617334, 3, 40);
     listed(desk);
     desk.clock = desk.clock + 1000000;
-    desk.table.count = 65;
+    desk.table.count = DESK_MOST_JOBS + 1;
     desk = stepped(desk);
     return 0;
 }

@@ -1,12 +1,13 @@
 //! A desk from Rust: the same calls as the example in C, with the same output.
 
+#[path = "../../include/desk.rs"]
 mod desk;
 
 use desk::{Answer, Desk, Reason};
 
 fn told(number: u32, answer: Answer) -> Desk {
     match answer.refusal {
-        0 => println!("job {number}: yes"),
+        desk::YES => println!("job {number}: yes"),
         refusal => println!("job {number}: no {refusal}"),
     }
     answer.desk
@@ -19,7 +20,7 @@ fn asked(desk: Desk, number: u32, work: u32, lead: u32) -> Desk {
 fn asked_why(desk: Desk, number: u32, work: u32, lead: u32) {
     let Reason { refusal, at, jobs, feeds, job, margin } = desk.why(number, work, lead);
     match refusal {
-        0 => println!("why job {number}: yes, margin {margin} at {at}"),
+        desk::YES => println!("why job {number}: yes, margin {margin} at {at}"),
         _ => println!(
             "why job {number}: no {refusal}, by {at} jobs owe {jobs}, feeds {feeds}, it {job}: margin {margin}"
         ),
@@ -28,7 +29,7 @@ fn asked_why(desk: Desk, number: u32, work: u32, lead: u32) {
 
 /// The front of a file of 12,345 triangles, behind an empty header.
 fn asked_with_mesh(desk: Desk, size: u64, number: u32, lead: u32) -> Desk {
-    let mut head = [0; 84];
+    let mut head = [0; desk::BYTES_OF_FRONT];
     head[80..].copy_from_slice(&12_345u32.to_le_bytes());
     told(number, desk.ask_mesh(&head, size, number, lead))
 }
@@ -37,18 +38,18 @@ fn stepped(desk: Desk) -> Desk {
     let step = desk.step();
     let (number, owes) = (step.number, step.owes);
     match (step.refusal, step.kind) {
-        (0, 0) => println!("tick {}: idle", desk.clock),
-        (0, 1) => println!("tick {}: job {number}, owes {owes}", desk.clock),
-        (0, _) => println!("tick {}: feed {number}, owes {owes}", desk.clock),
+        (desk::YES, desk::IDLE) => println!("tick {}: idle", desk.clock),
+        (desk::YES, desk::JOB) => println!("tick {}: job {number}, owes {owes}", desk.clock),
+        (desk::YES, _) => println!("tick {}: feed {number}, owes {owes}", desk.clock),
         (refusal, _) => println!("no step: {refusal}"),
     }
     step.desk
 }
 
 fn listed(desk: Desk) {
-    let mut buffer = [0; 3 * 64];
+    let mut buffer = [0; desk::NUMBERS_A_JOB * desk::MOST_JOBS];
     let list = desk.list(&mut buffer);
-    for job in buffer.chunks(3).take(list.count as usize) {
+    for job in buffer.chunks(desk::NUMBERS_A_JOB).take(list.count as usize) {
         println!("live: job {} owes {} by {}", job[0], job[1], job[2]);
     }
 }
@@ -59,7 +60,7 @@ fn labelled(desk: Desk) {
 }
 
 fn main() {
-    let opened = desk::open(&[4, 1, 0, 6, 2, 0], 0);
+    let opened = Desk::open(&[4, 1, 0, 6, 2, 0], 0);
     println!("open: {}", opened.refusal);
     let mut desk = opened.desk;
     desk = asked(desk, 1, 3, 6);
@@ -87,6 +88,6 @@ fn main() {
     desk = asked_with_mesh(desk, 617_334, 3, 40);
     listed(desk);
     desk.clock += 1_000_000;
-    desk.table.count = 65;
+    desk.table.count = desk::MOST_JOBS + 1;
     stepped(desk);
 }

@@ -1,21 +1,24 @@
-/* The near side: the functions of desk.h for this machine, each of which hands its call to the far side. */
+/* The near side: the functions of desk.h for this machine, each of which hands its call to the far side. A thread has a far
+ * side of its own. */
+#define _GNU_SOURCE
 #include "bridge.h"
 
+#include <fcntl.h>
 #include <stdio.h>
 #include <stdlib.h>
 #include <unistd.h>
 
-static FILE *to, *from;
+static _Thread_local FILE *to, *from;
 
 static void fail(const char *what) {
     fprintf(stderr, "bridge: %s\n", what);
     abort();
 }
 
-/* Starts the far side, at the first call. */
+/* Starts the far side, at the thread's first call. */
 static void start(void) {
     int there[2], back[2];
-    if (pipe(there) != 0 || pipe(back) != 0)
+    if (pipe2(there, O_CLOEXEC) != 0 || pipe2(back, O_CLOEXEC) != 0)
         fail("no pipe");
     pid_t child = fork();
     if (child < 0)
@@ -23,8 +26,6 @@ static void start(void) {
     if (child == 0) {
         dup2(there[0], 0);
         dup2(back[1], 1);
-        close(there[1]);
-        close(back[0]);
         execl("/bin/sh", "sh", "-c", FAR_COMMAND, (char *)NULL);
         _exit(127);
     }

@@ -6,12 +6,14 @@ use crate::invent::{self, Mesh};
 use crate::model::{self, LAST_INSTANT};
 use crate::own::{read, write, Own};
 use crate::random::Random;
+use crate::workers;
 use std::collections::BTreeMap;
 use std::io;
 
 #[cfg(feature = "calls")]
 pub fn linked(seed: u64, count: u64) -> io::Result<bool> {
-    Ok(report(seed, compare(&crate::boundary::Linked, seed, count)))
+    let compared = in_parts(&crate::boundary::Linked, seed, count);
+    Ok(report(seed, compared))
 }
 
 #[cfg(not(feature = "calls"))]
@@ -35,7 +37,7 @@ fn report(seed: u64, outcome: Result<Tally, String>) -> bool {
             true
         }
         Err(difference) => {
-            println!("difference: seed {seed}\n{difference}");
+            println!("difference: seed {seed}, {difference}");
             false
         }
     }
@@ -148,9 +150,28 @@ struct Walk<'a> {
     fronts: usize,
 }
 
-/// At least this many calls; an error tells the first difference.
-pub fn compare(library: &dyn Library, seed: u64, count: u64) -> Result<Tally, String> {
-    let random = Random::of(seed, 0);
+/// Calls are made in parts of this many, each with random numbers of its own: so the
+/// calls of a seed are the same ones however many parts are under way at once.
+const PART: u64 = 5_000;
+
+fn in_parts(library: &(dyn Library + Sync), seed: u64, count: u64) -> Result<Tally, String> {
+    let parts = (count + PART - 1) / PART;
+    let tallies = workers::each(parts as usize, |part| {
+        let part = part as u64;
+        let calls = PART.min(count - part * PART);
+        compare(library, seed, part, calls)
+            .map_err(|difference| format!("part {part}\n{difference}"))
+    })?;
+    let mut all = Tally::new();
+    for (answer, times) in tallies.into_iter().flatten() {
+        *all.entry(answer).or_default() += times;
+    }
+    Ok(all)
+}
+
+/// At least this many calls of a part; an error tells the first difference.
+pub fn compare(library: &dyn Library, seed: u64, part: u64, count: u64) -> Result<Tally, String> {
+    let random = Random::of(seed, part);
     let mut walk = Walk {
         library,
         random,

@@ -1,11 +1,10 @@
 //! Random scripts beside the real program, compared byte for byte.
 
-use crate::{fault, invent, script};
+use crate::{fault, invent, script, workers};
 use std::fs;
 use std::io::{self, Read, Write};
 use std::path::Path;
 use std::process::{Child, ChildStdin, Command, Stdio};
-use std::sync::atomic::{AtomicUsize, Ordering};
 use std::thread;
 
 fn own_answer(input: &[u8]) -> Vec<u8> {
@@ -57,8 +56,7 @@ fn their_answer(program: &str, input: &[u8]) -> io::Result<Vec<u8>> {
     Ok(answer)
 }
 
-/// Whether all scripts got the same answer, first the fixed ones. As many are
-/// under way at once as the machine has processors.
+/// Whether all scripts got the same answer, first the fixed ones.
 pub fn scripts(program: &str, seed: u64, count: u64) -> io::Result<bool> {
     let fixed = invent::fixed();
     let script = |item: usize| match fixed.get(item) {
@@ -71,40 +69,19 @@ pub fn scripts(program: &str, seed: u64, count: u64) -> io::Result<bool> {
             )
         }
     };
-    let next = AtomicUsize::new(0);
     let all = fixed.len() + count as usize;
-    let worker = || -> io::Result<Option<usize>> {
-        let mut lines = 0;
-        loop {
-            let item = next.fetch_add(1, Ordering::Relaxed);
-            if all <= item {
-                return Ok(Some(lines));
-            }
-            let (name, input) = script(item);
-            match compare(program, &name, &input)? {
-                Some(more) => lines += more,
-                None => {
-                    next.store(all, Ordering::Relaxed);
-                    return Ok(None);
-                }
-            }
+    let compared = workers::each(all, |item| {
+        let (name, input) = script(item);
+        match compare(program, &name, &input) {
+            Ok(lines) => lines.ok_or(None),
+            Err(error) => Err(Some(error)),
         }
-    };
-    let answers: Vec<io::Result<Option<usize>>> = thread::scope(|scope| {
-        let many = thread::available_parallelism().map_or(1, usize::from);
-        let workers: Vec<_> = (0..many).map(|_| scope.spawn(&worker)).collect();
-        workers
-            .into_iter()
-            .map(|at| at.join().expect("a worker"))
-            .collect()
     });
-    let mut lines = 0;
-    for answer in answers {
-        match answer? {
-            Some(more) => lines += more,
-            None => return Ok(false),
-        }
-    }
+    let lines: usize = match compared {
+        Ok(lines) => lines.iter().sum(),
+        Err(None) => return Ok(false),
+        Err(Some(error)) => return Err(error),
+    };
     println!(
         "{} fixed scripts and {count} of seed {seed} compared, {lines} lines of answers, no difference",
         fixed.len()

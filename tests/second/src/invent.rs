@@ -4,9 +4,11 @@
 //! lines of every kind. A script keeps the model's state beside it, so that
 //! most lines mean something where they stand.
 
+use crate::ahead;
 use crate::mesh;
 use crate::model::{open, round_of, Desk, Feed, JOB_LENGTH_MOST, LAST_INSTANT, ROUND_MOST};
 use crate::random::Random;
+use crate::reason::Instants;
 use crate::script::INPUT_MOST;
 
 // ---------------------------------------------------------------- feeds
@@ -216,19 +218,24 @@ pub fn lead(random: &mut Random, desk: &Desk) -> u64 {
     }
 }
 
-/// The most work that fits with this lead, 0 if none does, found by asking.
-fn most_that_fits(desk: &Desk, number: u32, lead: u64) -> u64 {
-    let fits = |work: u64| desk.ask(number, work as u32, lead as u32).is_ok();
-    let (mut fitting, mut beyond) = (0, lead.min(65_536) + 1);
-    while beyond - fitting > 1 {
-        let middle = (fitting + beyond) / 2;
-        if fits(middle) {
-            fitting = middle;
-        } else {
-            beyond = middle;
+/// The most work that fits with this lead, 0 if none does: the smallest margin from
+/// its deadline on.
+pub fn most_that_fits(desk: &Desk, number: u32, lead: u64) -> u64 {
+    let far = match desk.ask(number, 1, lead as u32) {
+        Ok(taken) => ahead::far_enough(&taken),
+        Err(_) => return 0,
+    };
+    let mut instants = Instants::after_the_clock(desk, 0, lead);
+    let mut least = i64::MAX;
+    loop {
+        let owed = instants.leap(far);
+        if owed.at >= desk.clock + lead {
+            least = least.min(owed.margin);
+        }
+        if owed.at == far {
+            return least as u64;
         }
     }
-    fitting
 }
 
 pub fn work(random: &mut Random, desk: &Desk, number: u32, lead: u64) -> u64 {
@@ -338,22 +345,21 @@ pub fn mesh(random: &mut Random, lent: usize) -> Mesh {
     Mesh { head, size }
 }
 
-/// The shortest lead with which this work fits, if there is one, found by asking.
-fn least_that_fits(desk: &Desk, number: u32, work: u32) -> Option<u64> {
-    let fits = |lead: u64| desk.ask(number, work, lead as u32).is_ok();
-    let (mut short, mut fitting) = (0, JOB_LENGTH_MOST.min(LAST_INSTANT - desk.clock));
-    if !fits(fitting) {
-        return None;
-    }
-    while fitting - short > 1 {
-        let middle = (short + fitting) / 2;
-        if fits(middle) {
-            fitting = middle;
-        } else {
-            short = middle;
+/// The shortest lead with which this work fits, if there is one: to the instant
+/// after the last whose margin is too small for it.
+pub fn least_that_fits(desk: &Desk, number: u32, work: u32) -> Option<u64> {
+    let longest = JOB_LENGTH_MOST.min(LAST_INSTANT - desk.clock);
+    let far = ahead::far_enough(&desk.ask(number, work, longest as u32).ok()?);
+    let mut instants = Instants::after_the_clock(desk, 0, longest);
+    let (mut from, mut margin, mut short) = (desk.clock, 0, desk.clock);
+    while from < far {
+        let next = instants.leap(far);
+        if margin < i64::from(work) {
+            short = (from + u64::from(work) - 1 - margin as u64).min(next.at - 1);
         }
+        (from, margin) = (next.at, next.margin);
     }
-    Some(fitting)
+    Some(short + 1 - desk.clock)
 }
 
 /// A lead for this mesh: as its work is given, often one at which it just fits

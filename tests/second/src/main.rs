@@ -17,6 +17,7 @@ mod reason;
 mod script;
 #[cfg(test)]
 mod tests;
+mod workers;
 
 use std::io::{self, Read, Write};
 use std::process::ExitCode;

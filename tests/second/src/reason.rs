@@ -93,6 +93,18 @@ impl Instants {
         instants
     }
 
+    /// On to the next instant at which something falls due, at most to this one;
+    /// until there the margin grows by one a tick.
+    pub fn leap(&mut self, most: Instant) -> Owed {
+        let at = self.soonest.min(most);
+        self.now.margin += (at - self.now.at) as i64;
+        self.now.at = at;
+        if at == self.soonest {
+            self.fall_due();
+        }
+        self.now
+    }
+
     /// Adds what is due at this very instant (at the clock nothing is), and looks
     /// for the next at which something will be.
     fn fall_due(&mut self) {

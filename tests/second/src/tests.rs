@@ -6,7 +6,7 @@
 use crate::ahead;
 use crate::boundary::{self, Answer, Label, Library, Listed, Stepped};
 use crate::calls;
-use crate::invent::BENCH;
+use crate::invent::{least_that_fits, most_that_fits, BENCH};
 use crate::mesh;
 use crate::model::*;
 use crate::own::{read, write, Own};
@@ -1123,6 +1123,29 @@ fn ahead_agrees_with_the_definition() {
     assert!((40..360).contains(&late), "both answers often: {late} late");
 }
 
+/// What is invented to just fit does: a tick more work, or a tick less time, doesn't.
+#[test]
+fn what_just_fits() {
+    let mut random = Random::of(14, 0);
+    let (mut works, mut leads) = (0, 0);
+    for _ in 0..2_000 {
+        let desk = small_state(&mut random, &[1, 2, 3, 4, 5, 6, 8, 12, 20], 40);
+        let fits = |work: u64, lead: u64| desk.ask(9, work as u32, lead as u32).is_ok();
+        let lead = random.between(1, 40);
+        let most = most_that_fits(&desk, 9, lead);
+        assert!(most == 0 || fits(most, lead), "{desk:?}");
+        assert!(!fits(most + 1, lead), "{desk:?}");
+        works += u32::from(most > 0);
+        let work = random.between(1, 20);
+        if let Some(least) = least_that_fits(&desk, 9, work as u32) {
+            assert!(fits(work, least), "{desk:?}");
+            assert!(!fits(work, least - 1), "{desk:?}");
+            leads += 1;
+        }
+    }
+    assert!(works > 200 && leads > 200, "{works} works, {leads} leads");
+}
+
 /// Lateness in the very last stretch that the comment in `ahead` allows for.
 #[test]
 fn lateness_can_come_long_after_the_last_job() {
@@ -1436,10 +1459,10 @@ fn faulty_number_alone(
 
 #[test]
 fn each_planted_fault_is_found() {
-    assert!(calls::compare(&Faulty(0), 5, 2_000).is_ok());
+    assert!(calls::compare(&Faulty(0), 5, 0, 2_000).is_ok());
     for fault in (1..=25).chain(30..=40) {
         assert!(
-            calls::compare(&Faulty(fault), 5, 20_000).is_err(),
+            calls::compare(&Faulty(fault), 5, 0, 20_000).is_err(),
             "fault {fault} went by"
         );
     }
@@ -1448,7 +1471,7 @@ fn each_planted_fault_is_found() {
 #[test]
 fn each_planted_fault_of_a_reason_is_found() {
     for fault in (50..=67).chain(70..=92).chain(100..=108) {
-        match calls::compare(&Faulty(fault), 5, 20_000) {
+        match calls::compare(&Faulty(fault), 5, 0, 20_000) {
             Ok(_) => panic!("fault {fault} went by"),
             Err(difference) => assert!(difference.contains("Why {"), "fault {fault}"),
         }
@@ -1615,7 +1638,7 @@ impl Library for Watching {
 #[test]
 fn a_right_library_passes() {
     let watching = Watching::default();
-    let tally = calls::compare(&watching, 7, 30_000).unwrap();
+    let tally = calls::compare(&watching, 7, 0, 30_000).unwrap();
     let refusals = [
         ("open", vec![0, 2, 3, 8, 9, 10, 12]),
         ("ask", vec![0, 1, 2, 3, 4, 5, 6, 13]),

@@ -1,0 +1,55 @@
+# shellcheck shell=bash
+# Sourced by the tests, at the top of the repository. A test prints a line for each of its checks and ends in a count.
+passed=0
+failed=0
+room=$(mktemp -d)
+log=$room/log
+trap 'rm -rf "$room"' EXIT
+
+good() { # NAME
+    passed=$((passed + 1))
+    echo "ok: $1"
+}
+
+bad() { # NAME
+    failed=$((failed + 1))
+    echo "FAILED: $1"
+}
+
+# one line for a check; what it said where it failed
+check() { # NAME COMMAND...
+    local name=$1
+    shift
+    if "$@" >"$log" 2>&1; then
+        good "$name"
+    else
+        cat "$log"
+        bad "$name"
+    fi
+}
+
+# a test of its own: shown as it goes, its count taken off its last line
+counted() { # NAME COMMAND...
+    local name=$1 status before=$failed
+    shift
+    echo "-- $name"
+    "$@" 2>&1 | tee "$log"
+    status=${PIPESTATUS[0]}
+    if [[ $(tail -n 1 "$log") =~ ^([0-9]+)\ passed,\ ([0-9]+)\ failed$ ]]; then
+        passed=$((passed + BASH_REMATCH[1]))
+        failed=$((failed + BASH_REMATCH[2]))
+    else
+        bad "$name ended without a count"
+    fi
+    [ "$status" -eq 0 ] || [ "$failed" -gt "$before" ] || bad "$name ended with status $status"
+}
+
+# the last line of a test, and its verdict: a test without a single check has failed
+counts() {
+    [ $((passed + failed)) -gt 0 ] || bad "nothing was checked"
+    echo "$passed passed, $failed failed"
+    [ "$failed" -eq 0 ]
+}
+
+# the names of the calls that the header declares
+header_calls() { sed -nE 's/^Desk[A-Z][a-z]+ (desk_[a-z_]+)\(.*/\1/p' include/desk.h; }
