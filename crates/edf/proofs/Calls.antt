@@ -1,25 +1,25 @@
--- Each call that the desk makes keeps a sound book sound.
-use mathlib.Core.Path.{_≡_, refl}
-use mathlib.Core.Bool.{true, false, not, cond}
-use mathlib.Core.List.{List, [], _∷_}
+-- A job taken, a job ended and a feed rested leave a sound book sound.
+use mathlib.Core.Path.{_≡_, sym, subst}
+use mathlib.Core.Bool.{true, not, cond}
+use mathlib.Core.List.{[], _∷_}
 use Prim.Native.Nat.{ℕ, _+_, _≤_}
 use native.Mathlib.Nat.{le-refl, le-trans}
 use native.Mathlib.Omega.{arith}
 use lib.Dec.{eqb}
 use Rattle.lists.specs.Lists.{eq, total}
 use Rattle.edf.specs.Book.{Feed, Job, Book}
-use Rattle.edf.specs.Releases.{currentDue}
+use Rattle.edf.specs.Releases.{due}
 use Rattle.edf.specs.Pieces.{jobPiece}
 use Rattle.edf.specs.Fits.{Fits}
 use Rattle.edf.specs.Owed.{dueBy, Room}
 use Rattle.edf.specs.Order.{FeedInOrder, JobInOrder, InOrder}
-use Rattle.edf.specs.Calls.{taking, ending, restFeed, resting, Askable, Call, asked, stepped, ended, rested, Right, after, run, AllRight}
-use Rattle.lists.proofs.Lists.{each, each-imp, each-append, each-map, each-keep, total-mono, total-append, total-map, total-keep-le}
+use Rattle.edf.specs.Calls.{taking, ending, restFeed, resting, Askable}
+use Rattle.lists.proofs.Lists.{each-imp, each-append, each-map, each-keep, total-le-all, total-append, total-map, total-keep-le}
 use Rattle.lists.proofs.Tests.{eqb-elim, eq-elim}
-use Rattle.edf.proofs.Demand.{byThen-mono, feedOwes}
+use Rattle.edf.proofs.Demand.{byThen-less, feedOwes}
 use Rattle.edf.proofs.Tick.{owedBy-split}
-use Rattle.edf.specs.Load.{Sound}
-use Rattle.edf.proofs.Sound.{light-map, step-is-sound}
+use Rattle.edf.specs.Load.{Light, Sound}
+use Rattle.edf.proofs.Plans.{resting-keeps-plans}
 use Rattle.edf.proofs.Counted.{fits-has-room}
 
 pub taking-in-order : (b : Book) (j : Job) → InOrder b → Askable b j → InOrder (taking j b)
@@ -70,9 +70,7 @@ rested-le p f = eqb-elim (λ b. cond b 0 (f .owes) ≤ f .owes) p (f .position) 
 rested-in-order : (t p : ℕ) (f : Feed) → FeedInOrder t f → FeedInOrder t (restFeed p f)
 rested-in-order t p f h =
     record {
-      offset = h .offset;
-      lead = h .lead;
-      short = h .short;
+      plan = h .plan;
       owes = le-trans (rested-le p f) (h .owes);
       early = λ e. omega (arith, rested-le p f, h .early e);
       over = λ e. omega (arith, rested-le p f, h .over e);
@@ -93,30 +91,10 @@ resting-is-sound b p s =
         owedBy-split (resting p b) D,
         owedBy-split b D,
         total-map (feedOwes (b .clock) D) (restFeed p) (b .feeds),
-        total-mono (λ f. feedOwes (b .clock) D (restFeed p f)) (feedOwes (b .clock) D) (b .feeds) (each (λ f. feedOwes (b .clock) D (restFeed p f) ≤ feedOwes (b .clock) D f) (λ f. owes-less D f) (b .feeds)),
+        total-le-all (λ f. feedOwes (b .clock) D (restFeed p f)) (feedOwes (b .clock) D)
+            (λ f. omega (arith, byThen-less D (due (f .plan) (b .clock)) (restFeed p f .owes) (f .owes) (rested-le p f)))
+            (b .feeds),
         s .room D h,
       );
-      light = light-map (restFeed p) (b .feeds) (λ L f. refl) (s .light);
+      light = subst Light (sym (resting-keeps-plans p b)) (s .light);
     }
-  where
-    owes-less : (D : ℕ) (f : Feed) → feedOwes (b .clock) D (restFeed p f) ≤ feedOwes (b .clock) D f
-    owes-less D f =
-        omega (
-          arith,
-          byThen-mono D D (currentDue f (b .clock)) (currentDue f (b .clock)) (restFeed p f .owes) (f .owes) (le-refl D) (le-refl (currentDue f (b .clock))) (rested-le p f),
-        )
-
--- KEPT BY EVERY CALL
-pub after-is-sound : (c : Call) (b : Book) → Right c b → Sound b → Sound (after c b)
-unfolding Right after
-after-is-sound (asked j true) b r s = let (a, f) = r .0 refl in taking-is-sound b j s a f
-after-is-sound (asked j false) b r s = s
-after-is-sound stepped b r s = step-is-sound b s
-after-is-sound (ended n) b r s = ending-is-sound b n s
-after-is-sound (rested p) b r s = resting-is-sound b p s
-
--- and so by any calls: every book on the way is the end of a shorter run
-pub run-is-sound : (cs : List Call) (b : Book) → AllRight cs b → Sound b → Sound (run cs b)
-unfolding run AllRight
-run-is-sound [] b r s = s
-run-is-sound (c ∷ cs) b r s = run-is-sound cs (after c b) (r .1) (after-is-sound c b (r .0) s)

@@ -18,7 +18,7 @@ use Rattle.edf.proofs.Counted.{fits-has-room}
 -- a feed that is due at its period's end
 abbrev pub plain : ℕ → ℕ → ℕ → ℕ → Feed
 plain position period work offset =
-    record { position = position; period = period; work = work; offset = offset; lead = period; owes = 0 }
+    record { position = position; plan = record { period = period; work = work; offset = offset; lead = period }; owes = 0 }
 
 -- X of the bench examples
 abbrev pub X : Book

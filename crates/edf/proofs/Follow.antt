@@ -4,13 +4,13 @@ use mathlib.Core.Path.{_≡_, refl, sym, _∙_, ap, subst}
 use mathlib.Core.Logic.{_⊎_, inl, inr}
 use mathlib.Core.Bool.{true}
 use mathlib.Core.List.{map}
-use Prim.Native.Nat.{ℕ, suc, _+_, _-_, _*_, _≤_, _<_}
+use Prim.Native.Nat.{ℕ, suc, _-_, _*_, _≤_, _<_}
 use native.Mathlib.Decide.{decLe}
 use native.Mathlib.Omega.{arith}
 use lib.Dec.{ltb}
 use Rattle.lists.specs.Lists.{eq, total, Each, Some}
 use Rattle.edf.specs.Book.{Feed, Job, Book, Who, job, feed, idle, same}
-use Rattle.edf.specs.Releases.{gone, currentDue}
+use Rattle.edf.specs.Releases.{due}
 use Rattle.edf.specs.Pieces.{Piece, jobPiece, currentPiece, atHand}
 use Rattle.edf.specs.Step.{foremost, runner, serveJob, serveFeed, serve, turnFeed, turn, stepBy, step}
 use Rattle.edf.specs.Order.{FeedInOrder, InOrder}
@@ -18,7 +18,7 @@ use Rattle.edf.specs.Kept.{LiveJob, Live, AtPiece, Current}
 use Rattle.lists.proofs.Lists.{each-at, some-imp, some-both, some-get, some-left, some-right, some-map, some-of-map, some-keep, some-of-keep, some-once, some-pick, some-or-each, total-zero}
 use Rattle.lists.proofs.Tests.{ltb-says, ltb-true, eq-elim, eq-refl}
 use Rattle.edf.proofs.Names.{same-elim, same-refl}
-use Rattle.edf.proofs.Releases.{since-suc}
+use Rattle.edf.proofs.Releases.{Onward, since-suc}
 use Rattle.edf.proofs.Demand.{turned-kept}
 use Rattle.edf.proofs.Runner.{Best, Nothing, foremost-best, runner-edf}
 use Rattle.edf.specs.Load.{Sound}
@@ -74,6 +74,15 @@ hand-feed b f s =
     some-right (λ x. x ≡ currentPiece (b .clock) f) (map (jobPiece (b .clock)) (b .jobs)) (map (currentPiece (b .clock)) (b .feeds))
     (some-map (λ x. x ≡ currentPiece (b .clock) f) (currentPiece (b .clock)) (b .feeds)
     (some-imp (λ g. g ≡ f) (λ g. currentPiece (b .clock) g ≡ currentPiece (b .clock) f) (λ g e. ap (currentPiece (b .clock)) e) (b .feeds) s))
+
+-- a job of the book is live as it stands, and a feed's piece is current
+pub live-here : (b : Book) (j : Job) → Some (λ k. k ≡ j) (b .jobs) → Live (j .number) (j .due) (j .owes) b
+live-here b j =
+    some-imp (λ k. k ≡ j) (LiveJob (j .number) (j .due) (j .owes)) (λ k e. (ap (λ x. x .number) e, ap (λ x. x .due) e, ap (λ x. x .owes) e)) (b .jobs)
+
+pub current-here : (b : Book) (f : Feed) → Some (λ g. g ≡ f) (b .feeds) → Current (f .position) (due (f .plan) (b .clock)) (f .owes) b
+current-here b f =
+    some-imp (λ g. g ≡ f) (AtPiece (b .clock) (f .position) (due (f .plan) (b .clock)) (f .owes)) (λ g e. (ap (λ x. x .position) e, ap (λ x. due (x .plan) (b .clock)) e, ap (λ x. x .owes) e)) (b .feeds)
 
 -- the number is free
 abbrev pub Free : ℕ → Book → Type 0
@@ -176,20 +185,19 @@ feed-step b p d o ord l h =
     o′ = o - ranNow b (feed p)
 
     moves : (f : Feed) → AtPiece (b .clock) p d o f × FeedInOrder (b .clock) f → AtPiece t′ p d o′ (turnFeed t′ (serveFeed g f))
-    moves f (e, k) = go (since-suc (f .period) (f .offset) (b .clock) (k .offset))
+    moves f (e, k) = go (since-suc (f .plan) (b .clock) (k .plan .offset))
       where
-        go : ((gone f (b .clock) + 1 < f .period) × (gone f t′ ≡ gone f (b .clock) + 1)) ⊎ ((gone f (b .clock) + 1 ≡ f .period) × (gone f t′ ≡ 0))
-            → AtPiece t′ p d o′ (turnFeed t′ (serveFeed g f))
+        go : Onward (f .plan) (b .clock) → AtPiece t′ p d o′ (turnFeed t′ (serveFeed g f))
         go (inl q) =
             let z : f .owes - same g (feed (f .position)) ≡ o′ = rw (e .0, e .2) refl in
             (e .0, omega (arith, e .1, q .1), turned-kept t′ (serveFeed g f) (omega (arith, q .1)) (omega (arith, e .1, q .1)) ∙ z)
-        go (inr q) = absurd (omega (arith, e .1, q .0, k .short))
+        go (inr q) = absurd (omega (arith, e .1, q .0, k .plan .short))
 
 -- a piece over the step that ends at its deadline has got its last tick
 pub feed-due : (b : Book) (p d o : ℕ) → Sound b → Current p d o b → d ≤ suc (b .clock) → o ≡ ranNow b (feed p)
 feed-due b p d o s l h =
     let (f, e, m) = some-pick (AtPiece (b .clock) p d o) (b .feeds) l in
-    let z = each-at (λ k. currentDue k (b .clock) ≤ suc (b .clock) → k .owes - same (runner b .who) (feed (k .position)) ≡ 0) f (b .feeds)
+    let z = each-at (λ k. due (k .plan) (b .clock) ≤ suc (b .clock) → k .owes - same (runner b .who) (feed (k .position)) ≡ 0) f (b .feeds)
     (served-due b (runner b .who) s (runner-edf b) .1)
     m
     (omega (arith, e .1)) in

@@ -4,81 +4,73 @@ use Prim.Native.Nat.{ℕ, zero, suc, _+_, _-_, _*_, _/_, _≤_, _<_, _∣_}
 use native.Mathlib.Nat.{le-refl, mul-div-cancel', add-mul-div-left, le-mul-of-pos-right}
 use native.Mathlib.Decide.{decLt}
 use native.Mathlib.Omega.{arith}
-use Rattle.edf.specs.Book.{Feed, Book}
-use Rattle.edf.specs.Releases.{gone, next, currentDue}
-use Rattle.edf.specs.Pieces.{jobPiece}
-use Rattle.edf.specs.Owed.{byThen, dueBy, laterCount, owedBy, Room, RoomBelow}
-use Rattle.edf.specs.Order.{FeedInOrder, InOrder}
-use Rattle.edf.specs.Load.{aRound, Round, Beyond, horizon}
-use Rattle.lists.proofs.Lists.{each, each-imp, each-both, total-mono, total-same, total-add}
+use Rattle.lists.specs.Lists.{Each}
+use Rattle.edf.specs.Book.{Plan, Book, plans}
+use Rattle.edf.specs.Releases.{since, next, due}
+use Rattle.edf.specs.Pieces.{atHand}
+use Rattle.edf.specs.Owed.{dueBy, laterCount, laterBy, owedBy, Room, RoomBelow}
+use Rattle.edf.specs.Order.{PlanInOrder, InOrder}
+use Rattle.edf.specs.Load.{horizon}
+use Rattle.edf.proofs.Loads.{aRound, Round, Beyond}
+use Rattle.lists.proofs.Lists.{each-imp, each-both, each-of-map, total-le-all, total-eq, total-add}
 use Rattle.edf.proofs.Releases.{since-lt}
-use Rattle.edf.proofs.Demand.{byThen-in, byThen-mono, laterBy-mono, feedOwes}
-use Rattle.edf.proofs.Tick.{owedBy-split}
-use Rattle.edf.proofs.Sound.{owedBy-past}
+use Rattle.edf.proofs.Demand.{byThen-in, byThen-mono, laterBy-mono}
+use Rattle.edf.proofs.Tick.{hand-each}
+use Rattle.edf.proofs.Sound.{plans-in-order, owedBy-past}
 
 -- WHAT IS OWED ONLY GROWS
 pub owedBy-mono : (b : Book) (D E : ℕ) → D ≤ E → owedBy b D ≤ owedBy b E
+unfolding owedBy
 owedBy-mono b D E h =
     omega (
       arith,
-      owedBy-split b D,
-      owedBy-split b E,
-      total-mono (λ j. dueBy D (jobPiece (b .clock) j)) (λ j. dueBy E (jobPiece (b .clock) j)) (b .jobs)
-          (each (λ j. byThen D (j .due) (j .owes) ≤ byThen E (j .due) (j .owes)) (λ j. grows (j .due) (j .owes)) (b .jobs)),
-      total-mono (feedOwes (b .clock) D) (feedOwes (b .clock) E) (b .feeds)
-          (each (λ f. feedOwes (b .clock) D f ≤ feedOwes (b .clock) E f)
-          (λ f. omega (arith, grows (currentDue f (b .clock)) (f .owes), laterBy-mono (b .clock) D E f h))
-          (b .feeds)),
+      total-le-all (dueBy D) (dueBy E) (λ p. byThen-mono D E (p .due) (p .due) (p .owes) (p .owes) h (le-refl (p .due)) (le-refl (p .owes))) (atHand b),
+      total-le-all (laterBy (b .clock) D) (laterBy (b .clock) E) (λ p. laterBy-mono (b .clock) D E p h) (plans (b .feeds)),
     )
-  where
-    grows : (d n : ℕ) → byThen D d n ≤ byThen E d n
-    grows d n = byThen-mono D E d d n n h (le-refl d) (le-refl n)
 
 -- THE JUMP: where there is room by D, there is room by every instant from the clock and what is owed by D on
 pub room-jumps : (b : Book) (D E : ℕ) → b .clock + owedBy b D ≤ E → E ≤ D → owedBy b E ≤ E - b .clock
 room-jumps b D E h k = omega (arith, owedBy-mono b E D k)
 
--- beyond, a round more of time brings what the feeds want in a round
-feed-round : (R t D : ℕ) (f : Feed) → f .offset < f .period → f .lead ≤ f .period → f .period ∣ R → next f t ≤ D
-    → feedOwes t (D + R) f ≡ feedOwes t D f + aRound R f
-feed-round R t D f o l d h =
-    let below : gone f t < f .period = since-lt (f .period) (f .offset) t o in
-    let n : D + R + gone f t - (t + f .lead) ≡ (D + gone f t - (t + f .lead)) + f .period * (R / f .period)
-    = omega (arith, mul-div-cancel' (f .period) d) in
-    let q : laterCount t (D + R) f ≡ laterCount t D f + R / f .period
-    = ap (_/ f .period) n ∙ add-mul-div-left (D + gone f t - (t + f .lead)) (R / f .period) (omega arith) in
-    let due : currentDue f t ≤ D = omega arith in
-    omega (
-      arith,
-      ap (f .work *_) q,
-      byThen-in D (currentDue f t) (f .owes) due,
-      byThen-in (D + R) (currentDue f t) (f .owes) (omega arith),
-    )
+-- beyond the next release, a round more of time brings what the plan wants in a round
+later-round : (R t D : ℕ) (p : Plan) → PlanInOrder p → p .period ∣ R → next p t ≤ D → laterBy t (D + R) p ≡ laterBy t D p + aRound R p
+later-round R t D p o d h =
+    let n : D + R + since p t - (t + p .lead) ≡ (D + since p t - (t + p .lead)) + p .period * (R / p .period)
+    = omega (arith, mul-div-cancel' (p .period) d, since-lt p t (o .offset)) in
+    let q : laterCount t (D + R) p ≡ laterCount t D p + R / p .period
+    = ap (_/ p .period) n ∙ add-mul-div-left (D + since p t - (t + p .lead)) (R / p .period) (omega arith) in
+    omega (arith, ap (p .work *_) q)
 
-pub owedBy-round : (b : Book) (R L D : ℕ) → InOrder b → Round R (b .feeds) → Beyond b L → L ≤ D → owedBy b (D + R) ≤ owedBy b D + R
+pub owedBy-round : (b : Book) (R L D : ℕ) → InOrder b → Round R (plans (b .feeds)) → Beyond b L → L ≤ D
+    → owedBy b (D + R) ≤ owedBy b D + R
+unfolding owedBy
 owedBy-round b R L D o r y h =
     omega (
       arith,
-      owedBy-split b D,
-      owedBy-split b (D + R),
-      total-same (λ j. dueBy (D + R) (jobPiece (b .clock) j)) (λ j. dueBy D (jobPiece (b .clock) j)) (b .jobs)
-          (each-imp (λ j. j .due ≤ L) (λ j. dueBy (D + R) (jobPiece (b .clock) j) ≡ dueBy D (jobPiece (b .clock) j))
-          (λ j k. byThen-in (D + R) (j .due) (j .owes) (omega arith) ∙ sym (byThen-in D (j .due) (j .owes) (omega arith)))
-          (b .jobs)
-          (y .jobs)),
-      total-same (feedOwes (b .clock) (D + R)) (λ f. feedOwes (b .clock) D f + aRound R f) (b .feeds)
-          (each-imp (λ f. (FeedInOrder (b .clock) f × (f .period ∣ R)) × (next f (b .clock) ≤ L)) (λ f. feedOwes (b .clock) (D + R) f ≡ feedOwes (b .clock) D f + aRound R f)
-          (λ f k. feed-round R (b .clock) D f (k .0 .0 .offset) (k .0 .0 .short) (k .0 .1) (omega (arith, k .1)))
-          (b .feeds)
-          (each-both (λ f. FeedInOrder (b .clock) f × (f .period ∣ R)) (λ f. next f (b .clock) ≤ L) (b .feeds)
-          (each-both (FeedInOrder (b .clock)) (λ f. f .period ∣ R) (b .feeds) (o .feeds) (r .common))
-          (y .feeds))),
-      total-add (feedOwes (b .clock) D) (aRound R) (b .feeds),
+      total-eq (λ p. p .due ≤ L) (dueBy (D + R)) (dueBy D) (λ p k. byThen-in (D + R) (p .due) (p .owes) (omega arith) ∙ sym (byThen-in D (p .due) (p .owes) (omega arith))) (atHand b)
+          (hand-each (λ p. p .due ≤ L) b (y .jobs) due-soon),
+      total-eq (λ p. Soon p × (p .period ∣ R)) (laterBy t (D + R)) (λ p. laterBy t D p + aRound R p) (λ p k. later-round R t D p (k .0 .0) (k .1) (omega (arith, k .0 .1))) (plans (b .feeds))
+          (each-both Soon (λ p. p .period ∣ R) (plans (b .feeds)) soon (r .common)),
+      total-add (laterBy t D) (aRound R) (plans (b .feeds)),
       r .carried,
     )
+  where
+    t : ℕ
+    t = b .clock
+
+    Soon : Plan → Type 0
+    Soon p = PlanInOrder p × (next p t ≤ L)
+
+    soon : Each Soon (plans (b .feeds))
+    soon = each-both PlanInOrder (λ p. next p t ≤ L) (plans (b .feeds)) (plans-in-order b o) (y .feeds)
+
+    due-soon : Each (λ f. due (f .plan) t ≤ L) (b .feeds)
+    due-soon =
+        each-of-map (λ p. due p t ≤ L) (λ f. f .plan) (b .feeds)
+        (each-imp Soon (λ p. due p t ≤ L) (λ p k. omega (arith, k .1, since-lt p t (k .0 .offset))) (plans (b .feeds)) soon)
 
 -- THE HORIZON: room by every instant below a round past the last deadline and release is room by all
-pub room-within-horizon : (b : Book) (R L : ℕ) → InOrder b → Round R (b .feeds) → Beyond b L
+pub room-within-horizon : (b : Book) (R L : ℕ) → InOrder b → Round R (plans (b .feeds)) → Beyond b L
     → RoomBelow (horizon R L) b
     → Room b
 unfolding Room RoomBelow

@@ -1,183 +1,250 @@
--- A yes is kept, over any calls: asks, steps, ends of other jobs, rests.
-use mathlib.Core.Path.{_≡_, refl, sym, _∙_, ap}
+-- A yes is kept and a layer is served, over any calls that the mathematics can follow.
+use mathlib.Core.Path.{_≡_, refl, sym, _∙_, ap, subst}
 use mathlib.Core.Logic.{_⊎_, inl, inr}
-use mathlib.Core.Bool.{true, false, not, cond}
 use mathlib.Core.List.{List, [], _∷_}
-use Prim.Native.Nat.{ℕ, suc, pred, _+_, _-_, _≤_, _<_}
-use native.Mathlib.Nat.{le-refl}
-use native.Mathlib.Decide.{decLt}
+use Prim.Native.Nat.{ℕ, _+_, _*_, _≤_, _<_}
 use native.Mathlib.Omega.{arith}
-use lib.Dec.{eqb}
-use Rattle.edf.specs.Book.{Feed, Job, Book, Who, job, feed}
-use Rattle.edf.specs.Pieces.{jobPiece}
-use Rattle.edf.specs.Step.{runner, ran, step}
-use Rattle.edf.specs.Order.{JobInOrder, InOrder}
-use Rattle.edf.specs.Calls.{taking, ending, restFeed, resting, Call, asked, stepped, ended, rested, after, run, AllRight, names, named, NotEnded, NotRested}
-use Rattle.edf.specs.Kept.{LiveJob, Live, HasLeft, JobKept, AtPiece, Current, PieceKept}
-use Rattle.lists.proofs.Lists.{each-at, some-imp, some-pick, some-left, some-right, some-map, some-keep}
-use Rattle.lists.proofs.Tests.{eqb-elim}
-use Rattle.edf.proofs.Names.{same-is, same-le}
+use Rattle.edf.specs.Book.{Book, Who, job, feed, same}
 use Rattle.edf.specs.Load.{Sound}
-use Rattle.edf.proofs.Sound.{step-is-sound}
-use Rattle.edf.proofs.Follow.{Free, ranNow, runner-is, job-named, feed-named, job-step, feed-step, feed-due, hand-job, job-busy}
-use Rattle.edf.proofs.Service.{step-clock}
-use Rattle.edf.proofs.Calls.{after-is-sound}
+use Rattle.edf.specs.Kept.{NotLive}
+use Rattle.edf.specs.Runs.{Did, after, Allowed, named}
+use Rattle.edf.specs.Kept.{Live, Current, StillLive, HasLeft, WasEnded, JobKept, StillCurrent, WasServed, WasRested, PieceKept}
+use Rattle.edf.proofs.Names.{same-elim}
+use Rattle.edf.proofs.Moves.{ends, rests, moved, gives, names-given}
+use Rattle.edf.proofs.Moved.{JobThen, live, out, PieceThen, current, served, still-ahead, job-moved, piece-moved, job-told}
+use Rattle.edf.proofs.Runs.{named-append, named-last, Known, Makes, System}
 
--- a call after which the job is live still hands on what is kept after it
-carry : (n d o o′ : ℕ) (c : Call) (cs : List Call) (b : Book) → o′ + names (job n) c b ≡ o → JobKept n d o′ cs (after c b) → JobKept n d o (c ∷ cs) b
-unfolding run named
-carry n d o o′ c cs b e (inl k) =
-    inl (record { owes = k .owes; live = k .live; ahead = k .ahead; counted = omega (arith, k .counted, e) })
-carry n d o o′ c cs b e (inr k) =
-    inr
-    (record {
-      before = c ∷ k .before;
-      later = k .later;
-      calls = ap (c ∷_) (k .calls);
-      last = k .last;
-      inTime = k .inTime;
-      counted = omega (arith, k .counted, e);
-    })
+-- for how many ticks one call names w
+abbrev tally : {C S : Type 0} → Who → Did C S → ℕ
+tally w x = same (x .came .who) w * x .came .ticks
 
-still-ahead : (b : Book) (n d o : ℕ) → InOrder b → Live n d o b → (b .clock < d) × (1 ≤ o)
-still-ahead b n d o ord l =
-    let (j, e, m) = some-pick (LiveJob n d o) (b .jobs) l in
-    let k = each-at (JobInOrder (b .clock)) j (b .jobs) (ord .jobs) m in
-    (omega (arith, k .ahead, e .1), omega (arith, k .owes, e .2))
+tallied : {C S : Type 0} (w : Who) (x : Did C S) → 1 ≤ tally w x → (x .came .who ≡ w) × (x .came .ticks ≡ tally w x)
+tallied w x =
+    same-elim (λ k. 1 ≤ k * x .came .ticks → (x .came .who ≡ w) × (x .came .ticks ≡ k * x .came .ticks)) (x .came .who) w
+    (λ e h. (e, omega arith))
+    (λ e h. absurd (omega arith))
 
--- the step that gives the last tick says so
-last-tick : (b : Book) (n d o : ℕ) → InOrder b → Live n d o b → o ≡ ranNow b (job n) → ran b ≡ record { who = job n; owes = 0 }
-unfolding ran
-last-tick b n d o ord l z =
-    let (j, e, m) = some-pick (LiveJob n d o) (b .jobs) l in
-    let who : runner b .who ≡ job n = same-is (runner b .who) (job n) (omega (arith, still-ahead b n d o ord l .1, z)) in
-    let is : runner b ≡ jobPiece (b .clock) j
-    = runner-is b (jobPiece (b .clock) j) ord (hand-job b j m) (job-busy (j .number)) (who ∙ ap job (sym (e .0))) .0 in
-    let owes : pred (runner b .owes) ≡ 0 = omega (arith, ap (λ x. x .owes) is, e .2, z, same-le (runner b .who) (job n)) in
-    λ i. record { who = who i; owes = owes i }
+module _ {C S : Type 0} (book : S → Book) (x : Did C S) (xs : List (Did C S)) (s : S) where
+  -- what holds after a call holds from before it on, with that call's ticks counted
+  longer : (n d o o′ : ℕ) (ys : List (Did C S)) → o′ + tally (job n) x ≡ o → StillLive book n d o′ ys (x .came .state) → StillLive book n d o (x ∷ ys) s
+  unfolding after named
+  longer n d o o′ ys e k = record { owes = k .owes; live = k .live; ahead = k .ahead; counted = omega (arith, k .counted) }
 
-live-taking : (n d o : ℕ) (b : Book) (j : Job) → Live n d o b → Live n d o (taking j b)
-unfolding taking
-live-taking n d o b j l = some-left (LiveJob n d o) (b .jobs) (j ∷ []) l
+  carry : (Ends : ℕ → Did C S → Type 0) (n d o o′ : ℕ) → o′ + tally (job n) x ≡ o
+      → JobKept book Ends n d o′ xs (x .came .state) → JobKept book Ends n d o (x ∷ xs) s
+  unfolding named
+  carry Ends n d o o′ e (inl k) = inl (longer n d o o′ xs e k)
+  carry Ends n d o o′ e (inr (inl k)) =
+      inr
+      (inl
+      (record {
+        before = x ∷ k .before;
+        at = k .at;
+        later = k .later;
+        calls = ap (x ∷_) (k .calls);
+        until = longer n d o o′ (k .before) e (k .until);
+        names = k .names;
+        some = k .some;
+        last = k .last;
+        inTime = k .inTime;
+        out = k .out;
+        counted = omega (arith, k .counted);
+      }))
+  carry Ends n d o o′ e (inr (inr k)) =
+      inr
+      (inr
+      (record {
+        before = x ∷ k .before;
+        at = k .at;
+        later = k .later;
+        calls = ap (x ∷_) (k .calls);
+        until = longer n d o o′ (k .before) e (k .until);
+        ended = k .ended;
+      }))
 
-live-ending : (n d o m : ℕ) (b : Book) → (n ≡ m → ⊥) → Live n d o b → Live n d o (ending m b)
-unfolding ending
-live-ending n d o m b h l =
-    some-keep (LiveJob n d o) (λ j. not (eqb m (j .number))) (b .jobs)
-    (some-imp (LiveJob n d o) (λ j. LiveJob n d o j × (not (eqb m (j .number)) ≡ true)) stays (b .jobs) l)
-  where
-    stays : (j : Job) → LiveJob n d o j → LiveJob n d o j × (not (eqb m (j .number)) ≡ true)
-    stays j e = (e, eqb-elim (λ x. not x ≡ true) m (j .number) (λ p. absurd (h (sym (p ∙ e .0)))) (λ p. refl))
+  longer-piece : (p d o o′ : ℕ) (ys : List (Did C S)) → o′ + tally (feed p) x ≡ o → StillCurrent book p d o′ ys (x .came .state) → StillCurrent book p d o (x ∷ ys) s
+  unfolding after named
+  longer-piece p d o o′ ys e k = record { owes = k .owes; current = k .current; ahead = k .ahead; counted = omega (arith, k .counted) }
 
--- A YES IS KEPT: a live job, over any calls that do not end it
-pub job-is-kept : (cs : List Call) (b : Book) (n d o : ℕ) → Sound b → AllRight cs b → NotEnded n cs → Live n d o b → JobKept n d o cs b
-unfolding run AllRight NotEnded named names after resting
-job-is-kept [] b n d o s r e l =
-    inl (record { owes = o; live = l; ahead = still-ahead b n d o (s .order) l .0; counted = omega arith })
-job-is-kept (asked j true ∷ cs) b n d o s r e l =
-    carry n d o o (asked j true) cs b (omega arith)
-    (job-is-kept cs (taking j b) n d o (after-is-sound (asked j true) b (r .0) s) (r .1) e (live-taking n d o b j l))
-job-is-kept (asked j false ∷ cs) b n d o s r e l =
-    carry n d o o (asked j false) cs b (omega arith) (job-is-kept cs b n d o s (r .1) e l)
-job-is-kept (stepped ∷ cs) b n d o s r e l =
-    go (λ k. job-is-kept cs (step b) n d (o - ranNow b (job n)) (step-is-sound b s) (r .1) e k) (job-step b n d o (s .order) l)
-  where
-    go : (Live n d (o - ranNow b (job n)) (step b) → JobKept n d (o - ranNow b (job n)) cs (step b))
-        → Live n d (o - ranNow b (job n)) (step b) ⊎ (Free n (step b) × (o ≡ ranNow b (job n)))
-        → JobKept n d o (stepped ∷ cs) b
-    go ih (inl k) =
-        carry n d o (o - ranNow b (job n)) stepped cs b (omega (arith, job-named b n d o (s .order) l .1)) (ih k)
-    go ih (inr k) =
-        inr
-        (record {
-          before = [];
-          later = cs;
-          calls = refl;
-          last = last-tick b n d o (s .order) l (k .1);
-          inTime = omega (arith, step-clock b, still-ahead b n d o (s .order) l .0);
-          counted = omega (arith, k .1);
-        })
-job-is-kept (ended m ∷ cs) b n d o s r e l =
-    carry n d o o (ended m) cs b (omega arith)
-    (job-is-kept cs (ending m b) n d o (after-is-sound (ended m) b (r .0) s) (r .1) (e .1) (live-ending n d o m b (e .0) l))
-job-is-kept (rested p ∷ cs) b n d o s r e l =
-    carry n d o o (rested p) cs b (omega arith)
-    (job-is-kept cs (resting p b) n d o (after-is-sound (rested p) b (r .0) s) (r .1) e l)
+  carry-piece : (Rests : ℕ → Did C S → Type 0) (p d o o′ : ℕ) → o′ + tally (feed p) x ≡ o
+      → PieceKept book Rests p d o′ xs (x .came .state) → PieceKept book Rests p d o (x ∷ xs) s
+  unfolding named
+  carry-piece Rests p d o o′ e (inl k) = inl (longer-piece p d o o′ xs e k)
+  carry-piece Rests p d o o′ e (inr (inl k)) =
+      inr
+      (inl
+      (record {
+        before = x ∷ k .before;
+        at = k .at;
+        later = k .later;
+        calls = ap (x ∷_) (k .calls);
+        until = longer-piece p d o o′ (k .before) e (k .until);
+        reached = k .reached;
+        counted = omega (arith, k .counted);
+      }))
+  carry-piece Rests p d o o′ e (inr (inr k)) =
+      inr
+      (inr
+      (record {
+        before = x ∷ k .before;
+        at = k .at;
+        later = k .later;
+        calls = ap (x ∷_) (k .calls);
+        until = longer-piece p d o o′ (k .before) e (k .until);
+        rested = k .rested;
+      }))
 
--- when the clock reaches its deadline, the job has left, named in exactly as many steps as its work
-pub job-is-done : (cs : List Call) (b : Book) (n d o : ℕ) → Sound b → AllRight cs b → NotEnded n cs → Live n d o b → d ≤ run cs b .clock
-    → HasLeft n d o cs b
-job-is-done cs b n d o s r e l h = go (job-is-kept cs b n d o s r e l)
-  where
-    go : JobKept n d o cs b → HasLeft n d o cs b
-    go (inl k) = absurd (omega (arith, k .ahead))
-    go (inr k) = k
+-- before any call
+live-now : {C S : Type 0} (book : S → Book) (s : S) (n d o : ℕ) → Sound (book s) → Live n d o (book s) → StillLive {C = C} book n d o [] s
+unfolding after named
+live-now book s n d o b l = record { owes = o; live = l; ahead = still-ahead (book s) n d o (b .order) l .0; counted = omega arith }
 
--- what an ask that is answered yes brings about
-pub taken-is-live : (b : Book) (j : Job) → Live (j .number) (j .due) (j .owes) (taking j b)
-unfolding taking
-taken-is-live b j = some-right (LiveJob (j .number) (j .due) (j .owes)) (b .jobs) (j ∷ []) (inl (refl, refl, refl))
+current-now : {C S : Type 0} (book : S → Book) (s : S) (p d o : ℕ) → Current p d o (book s) → book s .clock < d → StillCurrent {C = C} book p d o [] s
+unfolding after named
+current-now book s p d o l t = record { owes = o; current = l; ahead = t; counted = omega arith }
 
--- the clock never goes back
-pub run-clock : (cs : List Call) (b : Book) → b .clock ≤ run cs b .clock
-unfolding run after taking ending resting
-run-clock [] b = le-refl (b .clock)
-run-clock (asked j true ∷ cs) b = run-clock cs (taking j b)
-run-clock (asked j false ∷ cs) b = run-clock cs b
-run-clock (stepped ∷ cs) b = omega (arith, run-clock cs (step b), step-clock b)
-run-clock (ended n ∷ cs) b = run-clock cs (ending n b)
-run-clock (rested p ∷ cs) b = run-clock cs (resting p b)
+module _ {C S : Type 0} (book : S → Book) (Ends Rests : ℕ → Did C S → Type 0) (x : Did C S) (xs : List (Did C S)) (s : S) (sound : Sound (book s)) (m : Makes book Ends Rests x s) where
+  told : (w : Who) → tally w x ≡ gives (m .move) (book s) w
+  told w = names-given (m .move) (book s) (x .came) w (m .names)
 
--- while the clock stands nobody is named
-pub clock-stands : (cs : List Call) (b : Book) (w : Who) → run cs b .clock ≡ b .clock → named w cs b ≡ 0
-unfolding run named names after taking ending resting
-clock-stands [] b w h = refl
-clock-stands (asked j true ∷ cs) b w h = omega (arith, clock-stands cs (taking j b) w h)
-clock-stands (asked j false ∷ cs) b w h = omega (arith, clock-stands cs b w h)
-clock-stands (stepped ∷ cs) b w h = absurd (omega (arith, run-clock cs (step b), step-clock b))
-clock-stands (ended n ∷ cs) b w h = omega (arith, clock-stands cs (ending n b) w h)
-clock-stands (rested p ∷ cs) b w h = omega (arith, clock-stands cs (resting p b) w h)
+  clock : book (x .came .state) .clock ≡ moved (m .move) (book s) .clock
+  clock = ap (λ b. b .clock) (m .read)
 
-carry-piece : (p d o o′ : ℕ) (c : Call) (cs : List Call) (b : Book) → o′ + names (feed p) c b ≡ o → PieceKept p d o′ cs (after c b) → PieceKept p d o (c ∷ cs) b
-unfolding run named
-carry-piece p d o o′ c cs b e k =
-    record {
-      sooner = λ h. let (n, l, z) = k .sooner h in (n, l, omega (arith, z, e));
-      reached = λ h. omega (arith, k .reached h, e);
-    }
+  -- the job over one call, and on from there
+  job-call : (n d o : ℕ) → Live n d o (book s)
+      → ((o′ : ℕ) → Live n d o′ (book (x .came .state)) → JobKept book Ends n d o′ xs (x .came .state))
+      → JobKept book Ends n d o (x ∷ xs) s
+  unfolding named Known
+  job-call n d o l on = go (job-moved (m .move) (book s) n d o sound (m .right) l)
+    where
+      go : JobThen (gives (m .move) (book s) (job n)) (moved (m .move) (book s)) n d o ⊎ (m .move ≡ ends n) → JobKept book Ends n d o (x ∷ xs) s
+      go (inl (live o′ l′ e)) = carry book x xs s Ends n d o o′ (omega (arith, told (job n))) (on o′ (subst (Live n d o′) (sym (m .read)) l′))
+      go (inl (out f e t)) =
+          let all : tally (job n) x ≡ o = told (job n) ∙ e in
+          let some = still-ahead (book s) n d o (sound .order) l .1 in
+          let (who, ticks) = tallied (job n) x (omega arith) in
+          let rest : x .came .owes + x .came .ticks ≡ o = job-told (m .move) (book s) (x .came) n d o sound (m .right) (m .names) l who (omega arith) in
+          inr
+          (inl
+          (record {
+            before = [];
+            at = x;
+            later = xs;
+            calls = refl;
+            until = live-now book s n d o sound l;
+            names = who;
+            some = omega arith;
+            last = omega arith;
+            inTime = omega (arith, clock);
+            out = subst (NotLive n) (sym (m .read)) f;
+            counted = omega arith;
+          }))
+      go (inr e) =
+          inr
+          (inr
+          (record {
+            before = [];
+            at = x;
+            later = xs;
+            calls = refl;
+            until = live-now book s n d o sound l;
+            ended = subst (λ k. Known Ends Rests k x) e (m .known);
+          }))
 
-current-resting : (p d o q : ℕ) (b : Book) → (p ≡ q → ⊥) → Current p d o b → Current p d o (resting q b)
-unfolding resting
-current-resting p d o q b h l =
-    some-map (AtPiece (b .clock) p d o) (restFeed q) (b .feeds)
-    (some-imp (AtPiece (b .clock) p d o) (λ f. AtPiece (b .clock) p d o (restFeed q f)) stays (b .feeds) l)
-  where
-    stays : (f : Feed) → AtPiece (b .clock) p d o f → AtPiece (b .clock) p d o (restFeed q f)
-    stays f e = (e .0, e .1, eqb-elim (λ x. cond x 0 (f .owes) ≡ o) q (f .position) (λ z. absurd (h (sym (z ∙ e .0)))) (λ z. e .2))
+  -- the piece over one call, and on from there
+  piece-call : (p d o : ℕ) → Current p d o (book s) → book s .clock < d
+      → ((o′ : ℕ) → Current p d o′ (book (x .came .state)) → book (x .came .state) .clock < d → PieceKept book Rests p d o′ xs (x .came .state))
+      → PieceKept book Rests p d o (x ∷ xs) s
+  unfolding named Known
+  piece-call p d o l t on = go (piece-moved (m .move) (book s) p d o sound (m .right) l t)
+    where
+      go : PieceThen (gives (m .move) (book s) (feed p)) (moved (m .move) (book s)) p d o ⊎ (m .move ≡ rests p) → PieceKept book Rests p d o (x ∷ xs) s
+      go (inl (current o′ l′ t′ e)) =
+          carry-piece book x xs s Rests p d o o′ (omega (arith, told (feed p))) (on o′ (subst (Current p d o′) (sym (m .read)) l′) (omega (arith, clock)))
+      go (inl (served t′ e)) =
+          inr
+          (inl
+          (record {
+            before = [];
+            at = x;
+            later = xs;
+            calls = refl;
+            until = current-now book s p d o l t;
+            reached = omega (arith, clock);
+            counted = omega (arith, told (feed p));
+          }))
+      go (inr e) =
+          inr
+          (inr
+          (record {
+            before = [];
+            at = x;
+            later = xs;
+            calls = refl;
+            until = current-now book s p d o l t;
+            rested = subst (λ k. Known Ends Rests k x) e (m .known);
+          }))
 
--- EVERY PIECE IS SERVED: a current piece, over any calls that do not rest it
-pub piece-is-kept : (cs : List Call) (b : Book) (p d o : ℕ) → Sound b → AllRight cs b → NotRested p cs → b .clock < d → Current p d o b → PieceKept p d o cs b
-unfolding run AllRight NotRested named names after taking ending resting
-piece-is-kept [] b p d o s r e h l = record { sooner = λ k. (o, l, omega arith); reached = λ k. absurd (omega arith) }
-piece-is-kept (asked j true ∷ cs) b p d o s r e h l =
-    carry-piece p d o o (asked j true) cs b (omega arith)
-    (piece-is-kept cs (taking j b) p d o (after-is-sound (asked j true) b (r .0) s) (r .1) e h l)
-piece-is-kept (asked j false ∷ cs) b p d o s r e h l =
-    carry-piece p d o o (asked j false) cs b (omega arith) (piece-is-kept cs b p d o s (r .1) e h l)
-piece-is-kept (stepped ∷ cs) b p d o s r e h l =
-    go (decLt (suc (b .clock)) d)
-    (λ k. piece-is-kept cs (step b) p d (o - ranNow b (feed p)) (step-is-sound b s) (r .1) e (omega (arith, step-clock b)) (feed-step b p d o (s .order) l k))
-  where
-    go : Dec (suc (b .clock) < d) → (suc (b .clock) < d → PieceKept p d (o - ranNow b (feed p)) cs (step b)) → PieceKept p d o (stepped ∷ cs) b
-    go (yes k) ih = carry-piece p d o (o - ranNow b (feed p)) stepped cs b (omega (arith, feed-named b p d o (s .order) l .1)) (ih k)
-    go (no k) ih =
-        record {
-          sooner = λ q. absurd (omega (arith, run-clock cs (step b), step-clock b));
-          reached = λ q. omega (arith, clock-stands cs (step b) (feed p) (omega (arith, step-clock b)), feed-due b p d o s l (omega arith));
-        }
-piece-is-kept (ended m ∷ cs) b p d o s r e h l =
-    carry-piece p d o o (ended m) cs b (omega arith)
-    (piece-is-kept cs (ending m b) p d o (after-is-sound (ended m) b (r .0) s) (r .1) e h l)
-piece-is-kept (rested q ∷ cs) b p d o s r e h l =
-    carry-piece p d o o (rested q) cs b (omega arith)
-    (piece-is-kept cs (resting q b) p d o (after-is-sound (rested q) b (r .0) s) (r .1) (e .1) h (current-resting p d o q b (e .0) l))
+module _ {C S : Type 0} (y : System C S) where
+  -- A YES IS KEPT: a live job, over any calls at all
+  pub job-is-kept : (xs : List (Did C S)) (s : S) (n d o : ℕ) → y .Good s → Allowed (y .allows) xs s → Live n d o (y .book s)
+      → JobKept (y .book) (y .Ends) n d o xs s
+  unfolding Allowed
+  job-is-kept [] s n d o g a l = inl (live-now (y .book) s n d o (y .sound s g) l)
+  job-is-kept (x ∷ xs) s n d o g a l =
+      let (g′, m) = y .follows x s g (a .0) in
+      job-call (y .book) (y .Ends) (y .Rests) x xs s (y .sound s g) m n d o l
+      (λ o′ l′. job-is-kept xs (x .came .state) n d o′ g′ (a .1) l′)
+
+  -- EVERY LAYER IS SERVED: a current piece, over any calls at all
+  pub piece-is-kept : (xs : List (Did C S)) (s : S) (p d o : ℕ) → y .Good s → Allowed (y .allows) xs s → Current p d o (y .book s) → y .book s .clock < d
+      → PieceKept (y .book) (y .Rests) p d o xs s
+  unfolding Allowed
+  piece-is-kept [] s p d o g a l t = inl (current-now (y .book) s p d o l t)
+  piece-is-kept (x ∷ xs) s p d o g a l t =
+      let (g′, m) = y .follows x s g (a .0) in
+      piece-call (y .book) (y .Ends) (y .Rests) x xs s (y .sound s g) m p d o l t
+      (λ o′ l′ t′. piece-is-kept xs (x .came .state) p d o′ g′ (a .1) l′ t′)
+
+  -- when the clock has reached its deadline the job has left in time, or was ended
+  pub job-is-done : (xs : List (Did C S)) (s : S) (n d o : ℕ) → y .Good s → Allowed (y .allows) xs s → Live n d o (y .book s) → d ≤ y .book (after xs s) .clock
+      → HasLeft (y .book) n d o xs s ⊎ WasEnded (y .book) (y .Ends) n d o xs s
+  job-is-done xs s n d o g a l h = go (job-is-kept xs s n d o g a l)
+    where
+      go : JobKept (y .book) (y .Ends) n d o xs s → HasLeft (y .book) n d o xs s ⊎ WasEnded (y .book) (y .Ends) n d o xs s
+      go (inl k) = absurd (omega (arith, k .ahead))
+      go (inr k) = k
+
+  -- and the piece was served, or rested
+  pub piece-is-done : (xs : List (Did C S)) (s : S) (p d o : ℕ) → y .Good s → Allowed (y .allows) xs s → Current p d o (y .book s) → y .book s .clock < d
+      → d ≤ y .book (after xs s) .clock
+      → WasServed (y .book) p d o xs s ⊎ WasRested (y .book) (y .Rests) p d o xs s
+  piece-is-done xs s p d o g a l t h = go (piece-is-kept xs s p d o g a l t)
+    where
+      go : PieceKept (y .book) (y .Rests) p d o xs s → WasServed (y .book) p d o xs s ⊎ WasRested (y .book) (y .Rests) p d o xs s
+      go (inl k) = absurd (omega (arith, k .ahead))
+      go (inr k) = k
+
+module _ {C S : Type 0} (book : S → Book) where
+  -- who has left, and whose deadline came, was named for all the work
+  pub left-with-its-work : (n d work : ℕ) (xs : List (Did C S)) (s : S) → HasLeft book n d work xs s → work ≤ named (job n) xs
+  unfolding named
+  left-with-its-work n d work xs s k =
+      omega (
+        arith,
+        ap (named (job n)) (k .calls),
+        named-append (job n) (k .before) (k .at ∷ k .later),
+        named-last (job n) (k .before) (k .at),
+        k .counted,
+      )
+
+  pub served-with-its-work : (p d work : ℕ) (xs : List (Did C S)) (s : S) → WasServed book p d work xs s → work ≤ named (feed p) xs
+  unfolding named
+  served-with-its-work p d work xs s k =
+      omega (
+        arith,
+        ap (named (feed p)) (k .calls),
+        named-append (feed p) (k .before) (k .at ∷ k .later),
+        named-last (feed p) (k .before) (k .at),
+        k .counted,
+      )

@@ -9,11 +9,12 @@ use native.Mathlib.Omega.{arith}
 use lib.Dec.{T}
 use lib.IntN.{pos}
 use lib.Signed.{ltZ, _≤ℤ_, _<ℤ_, ltZ-yes}
-use Rattle.edf.specs.Book.{Book}
+use Rattle.edf.specs.Book.{Book, plans}
 use Rattle.edf.specs.Fits.{Fits}
 use Rattle.edf.specs.Owed.{owedBy, Room}
 use Rattle.edf.specs.Order.{InOrder}
-use Rattle.edf.specs.Load.{Light, Round, Beyond, horizon}
+use Rattle.edf.specs.Load.{Light, horizon}
+use Rattle.edf.proofs.Loads.{Round, Beyond}
 use Rattle.edf.specs.Margin.{margin, Overbooked, NoLarger, Smaller, FirstOverbooked, Tightest, Telling}
 use Rattle.edf.proofs.Equality.{fits-iff-room}
 use Rattle.edf.proofs.Horizon.{owedBy-round}
@@ -40,7 +41,7 @@ smaller-is b D E h k =
 
 -- THE HORIZON FOR MARGINS: a margin that is reached by every instant up to a round past the last deadline and release is
 -- reached by all
-pub margin-within-horizon : (b : Book) (R L x y : ℕ) → InOrder b → Round R (b .feeds) → Beyond b L
+pub margin-within-horizon : (b : Book) (R L x y : ℕ) → InOrder b → Round R (plans (b .feeds)) → Beyond b L
     → ((E : ℕ) → b .clock < E → E ≤ horizon R L → x + owedBy b E ≤ E + y)
     → (E : ℕ) → b .clock < E → x + owedBy b E ≤ E + y
 margin-within-horizon b R L x y o r z near E h = rounds E E (omega (arith, le-mul-of-pos-right E (r .positive))) h
@@ -100,8 +101,8 @@ not-below-zero-is-tightest b D (inl p) e = absurd (subst T e (overbooked-below-z
 not-below-zero-is-tightest b D (inr p) e = p
 
 -- WHERE THE INSTANT IS OVERBOOKED THE BOOK DOES NOT FIT, WHERE IT IS THE TIGHTEST IT DOES
-pub overbooked-does-not-fit : (b : Book) (D : ℕ) → InOrder b → Light (b .feeds) → FirstOverbooked b D → Fits b → ⊥
+pub overbooked-does-not-fit : (b : Book) (D : ℕ) → InOrder b → Light (plans (b .feeds)) → FirstOverbooked b D → Fits b → ⊥
 overbooked-does-not-fit b D o l p f = overbooked-no-room b D (p .after) (p .short) (fits-iff-room b o l .0 f)
 
-pub tightest-fits : (b : Book) (D : ℕ) → InOrder b → Light (b .feeds) → Tightest b D → Fits b
+pub tightest-fits : (b : Book) (D : ℕ) → InOrder b → Light (plans (b .feeds)) → Tightest b D → Fits b
 tightest-fits b D o l p = fits-iff-room b o l .1 (p .room)

@@ -5,15 +5,11 @@ use Prim.Native.Nat.{ℕ, _≤_}
 use native.Mathlib.Omega.{arith}
 use Rattle.lists.proofs.Tests.{eq-elim}
 use Rattle.edf.specs.Book.{Who, job, feed, idle, same}
-
-numberOf : Who → ℕ
-numberOf (job k) = k
-numberOf (feed k) = k
-numberOf idle = 0
+use Rattle.edf.specs.Step.{numberOf}
 
 -- whoever the two are: they are the same and count 1, or they differ and count 0
 pub same-elim : (P : ℕ → Type 0) (v w : Who) → (v ≡ w → P 1) → ((v ≡ w → ⊥) → P 0) → P (same v w)
-unfolding same numberOf
+unfolding same
 same-elim P (job m) (job n) y z = eq-elim P m n (λ p. y (ap job p)) (λ p. z (λ e. p (ap numberOf e)))
 same-elim P (job m) (feed q) y z = z (λ e. let k : _≡_ {A = ℕ} 0 1 = cc in omega arith)
 same-elim P (job m) idle y z = z (λ e. let k : _≡_ {A = ℕ} 0 1 = cc in omega arith)

@@ -1,170 +1,165 @@
--- THE PROMISES, over any calls from an opening.
+-- THE PROMISES, over any calls that the mathematics can follow.
 use mathlib.Core.Path.{_≡_, refl, sym, _∙_, ap, subst}
-use mathlib.Core.Bool.{true, false, cond}
+use mathlib.Core.Logic.{inl}
+use mathlib.Core.Bool.{cond}
 use mathlib.Core.List.{List, [], _∷_, _++_}
-use Prim.Native.Nat.{ℕ, suc, pred, _+_, _≤_, _<_}
+use Prim.Native.Nat.{ℕ, zero, suc, _+_, _*_, _≤_, _<_}
 use native.Mathlib.Omega.{arith}
 use Rattle.lists.specs.Lists.{Some}
-use Rattle.edf.specs.Book.{Feed, Job, Book, Who, job, feed}
-use Rattle.edf.specs.Releases.{gone}
-use Rattle.edf.specs.Pieces.{jobPiece, currentPiece}
+use Rattle.edf.specs.Book.{Feed, Job, Book, Who, job, feed, same}
+use Rattle.edf.specs.Releases.{since}
 use Rattle.edf.specs.Fits.{Fits}
-use Rattle.edf.specs.Step.{owing, runner, ran, step}
-use Rattle.edf.specs.Order.{InOrder}
-use Rattle.edf.specs.Calls.{taking, ending, restFeed, resting, Askable, Call, asked, stepped, ended, rested, after, run, AllRight, names, named, NotEnded, NotRested}
-use Rattle.edf.specs.Load.{Opens, openedFeed, opened, Less, Sound}
-use Rattle.edf.specs.Kept.{LiveJob, StillLive, JobKept, AtPiece, Current, PieceKept}
-use Rattle.lists.proofs.Lists.{each-at, some-imp, some-map, some-pick}
+use Rattle.edf.specs.Step.{step}
+use Rattle.edf.specs.Steps.{steps}
+use Rattle.edf.specs.Order.{FeedInOrder, InOrder}
+use Rattle.edf.specs.Calls.{taking, ending, resting, Askable}
+use Rattle.edf.specs.Load.{openedFeed, opened, Less}
+use Rattle.edf.specs.Runs.{Did, after, Allowed, named}
+use Rattle.edf.specs.Kept.{LiveJob, Live, Current, StillLive, JobKept, StillCurrent, PieceKept}
+use Rattle.lists.proofs.Lists.{some-imp, some-both, some-get, some-map, some-right}
 use Rattle.lists.proofs.Tests.{eqb-elim}
 use Rattle.edf.proofs.Names.{same-refl}
-use Rattle.edf.proofs.Sound.{step-is-sound}
-use Rattle.edf.proofs.Follow.{ranNow, runner-is, hand-job, hand-feed, job-busy, feed-busy}
-use Rattle.edf.proofs.Service.{step-clock, Kin, Has, has-step, released-step, fresh-piece}
-use Rattle.edf.proofs.Opening.{opening-is-sound}
-use Rattle.edf.proofs.Calls.{after-is-sound, run-is-sound}
+use Rattle.edf.proofs.Plans.{Kin, kin}
+use Rattle.edf.proofs.Service.{step-clock, Has, has-step, released-step, fresh-piece}
 use Rattle.edf.proofs.LessLoad.{less-takes}
-use Rattle.edf.proofs.Kept.{job-is-kept, piece-is-kept, taken-is-live}
+use Rattle.edf.proofs.Moves.{Move, stays, takes, goes, ends, rests, moved, steps-clock}
+use Rattle.edf.proofs.Moved.{job-told, piece-told}
+use Rattle.edf.proofs.Runs.{System, named-last, allowed-append, run-is-good, run-is-sound, run-has}
+use Rattle.edf.proofs.Kept.{job-is-kept, piece-is-kept}
 
-pub run-append : (cs ds : List Call) (b : Book) → run (cs ++ ds) b ≡ run ds (run cs b)
-unfolding run
-run-append [] ds b = refl
-run-append (c ∷ cs) ds b = run-append cs ds (after c b)
+-- what an ask that is answered yes brings about
+pub taken-is-live : (b : Book) (j : Job) → Live (j .number) (j .due) (j .owes) (taking j b)
+unfolding taking
+taken-is-live b j = some-right (LiveJob (j .number) (j .due) (j .owes)) (b .jobs) (j ∷ []) (inl (refl, refl, refl))
 
-pub named-append : (w : Who) (cs ds : List Call) (b : Book) → named w (cs ++ ds) b ≡ named w cs b + named w ds (run cs b)
-unfolding run named
-named-append w [] ds b = omega arith
-named-append w (c ∷ cs) ds b = omega (arith, named-append w cs ds (after c b))
+-- what a step to a release brings about: the feed's new piece owes its whole work
+pub released-is-current : (b : Book) (f : Feed) → Has f b → since (f .plan) (step b .clock) ≡ 0
+    → Current (f .position) (step b .clock + f .plan .lead) (f .plan .work) (step b)
+released-is-current b f h z = fresh-piece (step b) f z (released-step b f h (rw step-clock at z))
 
-pub right-append : (cs ds : List Call) (b : Book) → AllRight (cs ++ ds) b → AllRight cs b × AllRight ds (run cs b)
-unfolding run AllRight
-right-append [] ds b r = (tt, r)
-right-append (c ∷ cs) ds b r = let (x, y) = right-append cs ds (after c b) (r .1) in ((r .0, x), y)
+has-steps : (k : ℕ) (b : Book) (f : Feed) → Has f b → Has f (steps k b)
+unfolding steps
+has-steps zero b f h = h
+has-steps (suc k) b f h = has-steps k (step b) f (has-step b f h)
 
--- the feeds of an opening stay, whatever is called
-pub has-run : (cs : List Call) (b : Book) (f : Feed) → Has f b → Has f (run cs b)
-unfolding run after taking ending resting
-has-run [] b f h = h
-has-run (asked j true ∷ cs) b f h = has-run cs (taking j b) f h
-has-run (asked j false ∷ cs) b f h = has-run cs b f h
-has-run (stepped ∷ cs) b f h = has-run cs (step b) f (has-step b f h)
-has-run (ended n ∷ cs) b f h = has-run cs (ending n b) f h
-has-run (rested p ∷ cs) b f h = has-run cs (resting p b) f (some-map (Kin f) (restFeed p) (b .feeds) h)
+last-step : (k : ℕ) (b : Book) → steps (suc k) b ≡ step (steps k b)
+unfolding steps
+last-step zero b = refl
+last-step (suc k) b = last-step k (step b)
 
-module _ (t : ℕ) (fs : List Feed) (o : Opens fs) where
-  opens-sound : Sound (opened t fs)
-  opens-sound = opening-is-sound t fs (o .each) (o .positions) (o .light)
+-- the same of any move that brings the clock to the release
+released-by : (m : Move) (b : Book) (f : Feed) → Has f b → b .clock < moved m b .clock → since (f .plan) (moved m b .clock) ≡ 0
+    → Current (f .position) (moved m b .clock + f .plan .lead) (f .plan .work) (moved m b)
+unfolding moved taking ending resting
+released-by stays b f h t z = absurd (omega arith)
+released-by (takes j) b f h t z = absurd (omega arith)
+released-by (goes zero) b f h t z = absurd (omega (arith, steps-clock 0 b))
+released-by (goes (suc k)) b f h t z = rw last-step (released-is-current (steps k b) f (has-steps k b f h) (rw last-step at z))
+released-by (ends n) b f h t z = absurd (omega arith)
+released-by (rests p) b f h t z = absurd (omega arith)
 
-  -- EVERY BOOK ON THE WAY IS IN ORDER AND HAS ROOM
-  pub every-book-is-sound : (cs : List Call) → AllRight cs (opened t fs) → Sound (run cs (opened t fs))
-  every-book-is-sound cs r = run-is-sound cs (opened t fs) r opens-sound
+-- what an opening brings about
+pub opening-has : (t : ℕ) (fs : List Feed) (f : Feed) → Some (λ g. g ≡ f) fs → Has f (opened t fs)
+unfolding opened
+opening-has t fs f m = some-map (λ g. Kin g f) (openedFeed t) fs (some-imp (λ g. g ≡ f) (λ g. Kin g f) (λ g. kin g f) fs m)
 
-  -- A YES STANDS: whatever was called before it, and whatever is called after it that does not end the job
-  pub a-yes-is-kept : (cs : List Call) (j : Job) (ds : List Call)
-      → AllRight (cs ++ (asked j true ∷ ds)) (opened t fs)
-      → NotEnded (j .number) ds
-      → JobKept (j .number) (j .due) (j .owes) ds (taking j (run cs (opened t fs)))
-  unfolding AllRight after
-  a-yes-is-kept cs j ds r e =
-      let b : Book = run cs (opened t fs) in
-      let (before, rest) = right-append cs (asked j true ∷ ds) (opened t fs) r in
-      job-is-kept ds (taking j b) (j .number) (j .due) (j .owes)
-      (after-is-sound (asked j true) b (rest .0) (every-book-is-sound cs before))
-      (rest .1)
-      e
-      (taken-is-live b j)
+pub opened-is-current : (t : ℕ) (fs : List Feed) (f : Feed) → Some (λ g. g ≡ f) fs → since (f .plan) t ≡ 0
+    → Current (f .position) (t + f .plan .lead) (f .plan .work) (opened t fs)
+unfolding opened
+opened-is-current t fs f m z =
+    fresh-piece (opened t fs) f z
+    (some-map (λ g. Kin g f × (g .owes ≡ f .plan .work)) (openedFeed t) fs
+    (some-imp (λ g. g ≡ f) (λ g. Kin g f × (openedFeed t g .owes ≡ f .plan .work)) (λ g q. (kin g f q, comes g q)) fs m))
+  where
+    comes : (g : Feed) → g ≡ f → openedFeed t g .owes ≡ f .plan .work
+    comes g q =
+        eqb-elim (λ x. cond x (g .plan .work) 0 ≡ f .plan .work) (since (g .plan) t) 0 (λ w. ap (λ k. k .plan .work) q)
+        (λ w. absurd (w (ap (λ k. since (k .plan) t) q ∙ z)))
 
-  -- a feed of the opening
-  abbrev pub OfOpening : Feed → Type 0
-  OfOpening f = Some (λ g. g ≡ f) fs
+-- a feed of a book in order is due some time after it came
+some-lead : (b : Book) (f : Feed) → InOrder b → Has f b → 1 ≤ f .plan .lead
+some-lead b f o h =
+    some-get (λ g. Kin g f × FeedInOrder (b .clock) g) (1 ≤ f .plan .lead)
+    (λ g k. omega (arith, ap (λ p. p .lead) (k .0 .1), k .1 .plan .lead))
+    (b .feeds)
+    (some-both (λ g. Kin g f) (FeedInOrder (b .clock)) (b .feeds) h (o .feeds))
 
-  opening-has : (f : Feed) → OfOpening f → Has f (opened t fs)
-  unfolding opened
-  opening-has f m = some-map (Kin f) (openedFeed t) fs (some-imp (λ g. g ≡ f) (Kin f) (λ g e. ap (owing 0) e) fs m)
+-- the call that names w last is counted with those before it
+with-last : {C S : Type 0} (w : Who) (o work : ℕ) (before : List (Did C S)) (x : Did C S) → x .came .who ≡ w → o + named w before ≡ work
+    → x .came .owes + x .came .ticks ≡ o
+    → x .came .owes + named w (before ++ (x ∷ [])) ≡ work
+with-last w o work before x v e t =
+    let one : same (x .came .who) w * x .came .ticks ≡ x .came .ticks = rw (v, same-refl) (omega arith) in
+    omega (arith, named-last w before x)
 
-  some-lead : (f : Feed) → OfOpening f → 1 ≤ f .lead
-  some-lead f m = each-at (λ g. (g .offset < g .period) × (1 ≤ g .lead) × (g .lead ≤ g .period)) f fs (o .each) m .1
+module _ {C S : Type 0} (y : System C S) (s : S) (g : y .Good s) where
+  -- A YES STANDS: whatever was called before it, and whatever is called after it
+  pub a-yes-is-kept : (before : List (Did C S)) (x : Did C S) (later : List (Did C S)) (j : Job)
+      → Allowed (y .allows) (before ++ (x ∷ later)) s
+      → y .book (x .came .state) ≡ taking j (y .book (after before s))
+      → JobKept (y .book) (y .Ends) (j .number) (j .due) (j .owes) later (x .came .state)
+  unfolding Allowed
+  a-yes-is-kept before x later j a e =
+      let (front, back) = allowed-append (y .allows) before (x ∷ later) s a in
+      job-is-kept y later (x .came .state) (j .number) (j .due) (j .owes)
+      (y .follows x (after before s) (run-is-good y before s g front) (back .0) .0)
+      (back .1)
+      (subst (Live (j .number) (j .due) (j .owes)) (sym e) (taken-is-live (y .book (after before s)) j))
 
-  -- EVERY LAYER PIECE IS SERVED, from the step that released it, whatever was called before and whatever is called after
-  -- that does not rest it
-  pub a-released-piece-is-kept : (cs ds : List Call) (f : Feed) → OfOpening f
-      → AllRight (cs ++ (stepped ∷ ds)) (opened t fs)
-      → NotRested (f .position) ds
-      → gone f (suc (run cs (opened t fs) .clock)) ≡ 0
-      → PieceKept (f .position) (suc (run cs (opened t fs) .clock) + f .lead) (f .work) ds (step (run cs (opened t fs)))
-  unfolding AllRight after
-  a-released-piece-is-kept cs ds f m r e z =
-      let b : Book = run cs (opened t fs) in
-      let (before, rest) = right-append cs (stepped ∷ ds) (opened t fs) r in
-      let z′ : gone f (step b .clock) ≡ 0 = rw step-clock z in
-      let new : Current (f .position) (step b .clock + f .lead) (f .work) (step b)
-      = fresh-piece (step b) f z′ (released-step b f (has-run cs (opened t fs) f (opening-has f m)) z) in
-      piece-is-kept ds (step b) (f .position) (suc (b .clock) + f .lead) (f .work)
-      (step-is-sound b (every-book-is-sound cs before))
-      (rest .1)
-      e
-      (omega (arith, step-clock b, some-lead f m))
-      (subst (λ x. Current (f .position) (x + f .lead) (f .work) (step b)) (step-clock b) new)
+  -- EVERY LAYER PIECE IS SERVED, from the call that brought the clock to its release, whatever was called before and whatever
+  -- is called after
+  pub a-released-piece-is-kept : (before : List (Did C S)) (x : Did C S) (later : List (Did C S)) (f : Feed) → Has f (y .book s)
+      → Allowed (y .allows) (before ++ (x ∷ later)) s
+      → y .book (after before s) .clock < y .book (x .came .state) .clock
+      → since (f .plan) (y .book (x .came .state) .clock) ≡ 0
+      → PieceKept (y .book) (y .Rests) (f .position) (y .book (x .came .state) .clock + f .plan .lead) (f .plan .work) later (x .came .state)
+  unfolding Allowed
+  a-released-piece-is-kept before x later f h a t z =
+      let (front, back) = allowed-append (y .allows) before (x ∷ later) s a in
+      let (good, m) = y .follows x (after before s) (run-is-good y before s g front) (back .0) in
+      let b : Book = y .book (after before s) in
+      let has : Has f b = run-has y before s g front f h in
+      piece-is-kept y later (x .came .state) (f .position) (y .book (x .came .state) .clock + f .plan .lead) (f .plan .work) good (back .1)
+      (rw (m .read) (released-by (m .move) b f has (omega (arith, ap (λ c. c .clock) (m .read))) (subst (λ c. since (f .plan) (c .clock) ≡ 0) (m .read) z)))
+      (omega (arith, some-lead b f (run-is-sound y before s g front .order) has))
 
   -- and those that come with the opening
-  pub an-opened-piece-is-kept : (ds : List Call) (f : Feed) → OfOpening f
-      → AllRight ds (opened t fs)
-      → NotRested (f .position) ds
-      → gone f t ≡ 0
-      → PieceKept (f .position) (t + f .lead) (f .work) ds (opened t fs)
+  pub an-opened-piece-is-kept : (t : ℕ) (fs : List Feed) (f : Feed) → Some (λ k. k ≡ f) fs → y .book s ≡ opened t fs → since (f .plan) t ≡ 0
+      → (later : List (Did C S)) → Allowed (y .allows) later s
+      → PieceKept (y .book) (y .Rests) (f .position) (t + f .plan .lead) (f .plan .work) later s
   unfolding opened
-  an-opened-piece-is-kept ds f m r e z =
-      piece-is-kept ds (opened t fs) (f .position) (t + f .lead) (f .work) opens-sound r e (omega (arith, some-lead f m))
-      (fresh-piece (opened t fs) f z
-      (some-map (λ g. Kin f g × (g .owes ≡ f .work)) (openedFeed t) fs
-      (some-imp (λ g. g ≡ f) (λ g. Kin f (openedFeed t g) × (openedFeed t g .owes ≡ f .work))
-      (λ g q. (ap (owing 0) q, comes g q))
-      fs
-      m)))
-    where
-      comes : (g : Feed) → g ≡ f → openedFeed t g .owes ≡ f .work
-      comes g q =
-          eqb-elim (λ x. cond x (g .work) 0 ≡ f .work) (gone g t) 0 (λ w. ap (λ k. k .work) q)
-          (λ w. absurd (w (ap (λ k. gone k t) q ∙ z)))
+  an-opened-piece-is-kept t fs f m e z later a =
+      piece-is-kept y later s (f .position) (t + f .plan .lead) (f .plan .work) g a
+      (subst (Current (f .position) (t + f .plan .lead) (f .plan .work)) (sym e) (opened-is-current t fs f m z))
+      (omega (arith, ap (λ b. b .clock) e, some-lead (y .book s) f (y .sound s g .order) (subst (Has f) (sym e) (opening-has t fs f m))))
 
-ran-owes : (b : Book) → ran b .owes ≡ pred (runner b .owes)
-unfolding ran
-ran-owes b = refl
+  module _ (before : List (Did C S)) (x : Did C S) (later : List (Did C S)) (a : Allowed (y .allows) (before ++ (x ∷ later)) s) where
+    -- WHAT AN ANSWER TELLS AS STILL OWED is the work less the ticks that the job was named for, those of this call included
+    pub a-job's-report-is-right : (n due work : ℕ) → StillLive (y .book) n due work before s → x .came .who ≡ job n → 1 ≤ x .came .ticks
+        → x .came .owes + named (job n) (before ++ (x ∷ [])) ≡ work
+    unfolding Allowed
+    a-job's-report-is-right n due work l w h =
+        let (front, back) = allowed-append (y .allows) before (x ∷ later) s a in
+        let m = y .follows x (after before s) (run-is-good y before s g front) (back .0) .1 in
+        with-last (job n) (l .owes) work before x w (l .counted)
+        (job-told (m .move) (y .book (after before s)) (x .came) n due (l .owes) (run-is-sound y before s g front) (m .right) (m .names) (l .live) w h)
 
-ran-who : (b : Book) → ran b .who ≡ runner b .who
-unfolding ran
-ran-who b = refl
+    -- the same of a piece before its deadline
+    pub a-piece's-report-is-right : (p due work : ℕ) → StillCurrent (y .book) p due work before s → x .came .who ≡ feed p → 1 ≤ x .came .ticks
+        → x .came .owes + named (feed p) (before ++ (x ∷ [])) ≡ work
+    unfolding Allowed
+    a-piece's-report-is-right p due work l w h =
+        let (front, back) = allowed-append (y .allows) before (x ∷ later) s a in
+        let m = y .follows x (after before s) (run-is-good y before s g front) (back .0) .1 in
+        with-last (feed p) (l .owes) work before x w (l .counted)
+        (piece-told (m .move) (y .book (after before s)) (x .came) p due (l .owes) (run-is-sound y before s g front) (m .right) (m .names) (l .current) w h)
 
--- WHAT A STEP REPORTS AS STILL OWED is the work less the steps that named the job, this one included
-pub a-job's-report-is-right : (cs : List Call) (b : Book) (n d work : ℕ) → InOrder (run cs b) → StillLive n d work cs b
-    → ran (run cs b) .who ≡ job n
-    → ran (run cs b) .owes + named (job n) (cs ++ (stepped ∷ [])) b ≡ work
-unfolding named names
-a-job's-report-is-right cs b n d work o l w =
-    let (j, e, m) = some-pick (LiveJob n d (l .owes)) (run cs b .jobs) (l .live) in
-    let is = runner-is (run cs b) (jobPiece (run cs b .clock) j) o (hand-job (run cs b) j m) (job-busy (j .number)) (sym (ran-who (run cs b)) ∙ w ∙ ap job (sym (e .0))) in
-    let one : ranNow (run cs b) (job n) ≡ 1 = rw (sym (ran-who (run cs b)) ∙ w) (same-refl (job n)) in
-    omega (arith, named-append (job n) cs (stepped ∷ []) b, l .counted, ap (λ x. x .owes) (is .0), e .2, is .1, one, ran-owes (run cs b))
-
--- the same of a piece before its deadline
-pub a-piece's-report-is-right : (cs : List Call) (b : Book) (p d work : ℕ) → InOrder (run cs b) → PieceKept p d work cs b
-    → run cs b .clock < d
-    → ran (run cs b) .who ≡ feed p
-    → ran (run cs b) .owes + named (feed p) (cs ++ (stepped ∷ [])) b ≡ work
-unfolding named names
-a-piece's-report-is-right cs b p d work o k h w =
-    let (n, l, c) = k .sooner h in
-    let (f, e, m) = some-pick (AtPiece (run cs b .clock) p d n) (run cs b .feeds) l in
-    let is = runner-is (run cs b) (currentPiece (run cs b .clock) f) o (hand-feed (run cs b) f m) (feed-busy (f .position)) (sym (ran-who (run cs b)) ∙ w ∙ ap feed (sym (e .0))) in
-    let one : ranNow (run cs b) (feed p) ≡ 1 = rw (sym (ran-who (run cs b)) ∙ w) (same-refl (feed p)) in
-    omega (arith, named-append (feed p) cs (stepped ∷ []) b, c, ap (λ x. x .owes) (is .0), e .2, is .1, one, ran-owes (run cs b))
-
--- LESS LOAD, over books that any calls reach: a request that fits on the heavier fits on the lighter
-pub a-lighter-book-takes : (t u : ℕ) (fs gs : List Feed) (cs ds : List Call) (q : Job) → Opens fs → Opens gs
-    → AllRight cs (opened t fs) → AllRight ds (opened u gs)
-    → Less (run cs (opened t fs)) (run ds (opened u gs))
-    → Askable (run cs (opened t fs)) q → Askable (run ds (opened u gs)) q
-    → Fits (taking q (run ds (opened u gs))) → Fits (taking q (run cs (opened t fs)))
-a-lighter-book-takes t u fs gs cs ds q o p r s h x y =
-    let a = every-book-is-sound t fs o cs r in
-    let b = every-book-is-sound u gs p ds s in
-    less-takes (run cs (opened t fs)) (run ds (opened u gs)) q (a .order) (b .order) (b .light) h x y
+-- LESS LOAD, over states that any calls reach: a request that fits on the heavier fits on the lighter
+pub a-lighter-book-takes : {C D S T : Type 0} (y : System C S) (z : System D T) (xs : List (Did C S)) (ys : List (Did D T)) (s : S) (t : T) (q : Job)
+    → y .Good s → z .Good t → Allowed (y .allows) xs s → Allowed (z .allows) ys t
+    → Less (y .book (after xs s)) (z .book (after ys t))
+    → Askable (y .book (after xs s)) q → Askable (z .book (after ys t)) q
+    → Fits (taking q (z .book (after ys t))) → Fits (taking q (y .book (after xs s)))
+a-lighter-book-takes y z xs ys s t q g h a b less =
+    let heavier = run-is-sound z ys t h b in
+    less-takes (y .book (after xs s)) (z .book (after ys t)) q (run-is-sound y xs s g a .order) (heavier .order) (heavier .light) less

@@ -122,7 +122,7 @@ goesBefore-elim : (P : Bool → Type 0) (p q : Piece)
     → (0 < q .owes → T (sooner q p) → P false)
     → P (goesBefore p q)
 unfolding goesBefore
-goesBefore-elim P p q alone ahead nothing behind =
+goesBefore-elim P p q alone leads nothing follows =
     ltb-elim (λ x. P (x && (eqb (q .owes) 0 || sooner p q))) 0 (p .owes)
     (λ h. eqb-elim (λ x. P (x || sooner p q)) (q .owes) 0 (alone h) (λ n. turn h (omega arith) (sooner p q) refl))
     (λ h. nothing (omega arith))
@@ -132,8 +132,8 @@ goesBefore-elim P p q alone ahead nothing behind =
     go (inr t) e = t
 
     turn : 0 < p .owes → 0 < q .owes → (b : Bool) → sooner p q ≡ b → P b
-    turn h k true e = ahead h (subst T (sym e) tt)
-    turn h k false e = behind k (go (sooner-total p q) e)
+    turn h k true e = leads h (subst T (sym e) tt)
+    turn h k false e = follows k (go (sooner-total p q) e)
 
 -- p is of the list and ready, and goes before all that is ready
 abbrev pub Best : List Piece → Piece → Type 0

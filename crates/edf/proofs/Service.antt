@@ -9,16 +9,17 @@ use native.Mathlib.Omega.{arith}
 use lib.Dec.{ltb}
 use Rattle.lists.specs.Lists.{eq, Each, Some}
 use Rattle.edf.specs.Instants.{during}
-use Rattle.edf.specs.Book.{Feed, Job, Book, Who, job, feed, idle, same}
-use Rattle.edf.specs.Releases.{gone, currentDue, laterFrom}
+use Rattle.edf.specs.Book.{Feed, Job, Book, Who, job, feed, same}
+use Rattle.edf.specs.Releases.{since, due, laterFrom}
 use Rattle.edf.specs.Pieces.{Piece, jobPiece, currentPiece, laterPiece, atHand}
-use Rattle.edf.specs.Fits.{Choice, goesTo, gets, Served, Fits}
-use Rattle.edf.specs.Step.{owing, runner, serveJob, serveFeed, serve, turnFeed, turn, stepBy, step, foremost}
-use Rattle.edf.specs.Steps.{steps, nameOf, byDesk}
+use Rattle.edf.specs.Fits.{Name, Choice, goesTo, gets, Served, Fits}
+use Rattle.edf.specs.Step.{numberOf, runner, serveJob, serveFeed, serve, turned, turnFeed, turn, stepBy, step, foremost}
+use Rattle.edf.specs.Steps.{steps}
 use Rattle.edf.specs.Order.{FeedInOrder, JobInOrder}
 use Rattle.lists.proofs.Lists.{each-imp, each-both, each-self, each-at, some-imp, some-get, some-pick, some-append, some-map, some-of-map, some-le-total, total-map, total-keep-le}
 use Rattle.lists.proofs.Tests.{eq-refl}
 use Rattle.edf.proofs.Names.{same-not}
+use Rattle.edf.proofs.Plans.{Kin, kin}
 use Rattle.edf.proofs.Releases.{since-lt, since-later}
 use Rattle.edf.proofs.Demand.{turned-released}
 use Rattle.edf.proofs.Runner.{Best, Nothing, foremost-best}
@@ -26,7 +27,14 @@ use Rattle.edf.specs.Load.{Sound}
 use Rattle.edf.proofs.Sound.{step-is-sound}
 use Rattle.edf.proofs.Tick.{hand-each}
 use Rattle.edf.specs.Kept.{LiveJob, Live, AtPiece, Current}
-use Rattle.edf.proofs.Follow.{Free, ranNow, job-named, feed-named, job-step, feed-step, feed-due, job-busy}
+use Rattle.edf.proofs.Follow.{Free, ranNow, job-named, feed-named, job-step, feed-step, feed-due, job-busy, live-here, current-here}
+
+abbrev pub nameOf : Piece → Name
+nameOf p = record { who = p .who; due = p .due }
+
+-- each tick goes to the runner of its instant
+unfoldable pub byDesk : Book → Choice
+byDesk b x = nameOf (runner (steps (x - b .clock) b))
 
 -- the choice c is what the steps from b on name
 abbrev pub Follows : Choice → Book → Type 0
@@ -75,14 +83,9 @@ free-unnamed b n z = same-not (foremost (atHand b) .who) (job n) (λ e. go e (fo
     at-hand : r .who ≡ job n → Some (λ x. x ≡ r) (atHand b) → ⊥
     at-hand e s = split (some-append (λ x. x ≡ r) (map (jobPiece (b .clock)) (b .jobs)) (map (currentPiece (b .clock)) (b .feeds)) s)
       where
-        number : Who → ℕ
-        number (job k) = k
-        number (feed k) = 0
-        number idle = 0
-
         a-job : (j : Job) → jobPiece (b .clock) j ≡ r → 1 ≤ eq n (j .number)
         a-job j k =
-            let q : j .number ≡ n = ap (λ x. number (x .who)) k ∙ ap number e in
+            let q : j .number ≡ n = ap (λ x. numberOf (x .who)) k ∙ ap numberOf e in
             rw q (omega (arith, eq-refl n))
 
         a-feed : (f : Feed) → currentPiece (b .clock) f ≡ r → ⊥
@@ -163,53 +166,50 @@ piece-served-in : (k : ℕ) (c : Choice) (b : Book) (p d o : ℕ) → 1 ≤ k �
 piece-served-in zero c b p d o h s f l e = absurd (omega arith)
 piece-served-in (suc m) c b p d o h s f l e = piece-served m c b p d o s f l e
 
--- the same feed, whatever its current piece owes
-abbrev pub Kin : Feed → Feed → Type 0
-Kin f g = owing 0 g ≡ owing 0 f
-
+-- the feed is one of the book's
 abbrev pub Has : Feed → Book → Type 0
-Has f b = Some (Kin f) (b .feeds)
+Has f b = Some (λ g. Kin g f) (b .feeds)
+
+-- and its current piece owes the whole work
+abbrev pub Fresh : Feed → Book → Type 0
+Fresh f b = Some (λ g. Kin g f × (g .owes ≡ f .plan .work)) (b .feeds)
 
 pub has-step : (b : Book) (f : Feed) → Has f b → Has f (step b)
 unfolding step stepBy turn serve
 has-step b f h =
-    some-map (Kin f) (turnFeed (suc (b .clock))) (map (serveFeed (runner b .who)) (b .feeds))
-    (some-map (λ g. Kin f (turnFeed (suc (b .clock)) g)) (serveFeed (runner b .who)) (b .feeds) h)
+    some-map (λ g. Kin g f) (turnFeed (suc (b .clock))) (map (serveFeed (runner b .who)) (b .feeds))
+    (some-map (λ g. Kin g f) (serveFeed (runner b .who)) (b .feeds) h)
 
 -- the step to a release has the new piece owe the whole work
-pub released-step : (b : Book) (f : Feed) → Has f b → gone f (suc (b .clock)) ≡ 0 → Some (λ g. Kin f g × (g .owes ≡ f .work)) (step b .feeds)
+pub released-step : (b : Book) (f : Feed) → Has f b → since (f .plan) (suc (b .clock)) ≡ 0 → Fresh f (step b)
 unfolding step stepBy turn serve
 released-step b f h z =
-    some-map (λ g. Kin f g × (g .owes ≡ f .work)) (turnFeed t′) (map (serveFeed (runner b .who)) (b .feeds))
-    (some-map (λ g. Kin f (turnFeed t′ g) × (turnFeed t′ g .owes ≡ f .work)) (serveFeed (runner b .who)) (b .feeds)
-    (some-imp (Kin f) (λ g. Kin f g × (turnFeed t′ (serveFeed (runner b .who) g) .owes ≡ f .work)) new (b .feeds) h))
+    some-map (λ g. Kin g f × (g .owes ≡ f .plan .work)) (turnFeed t′) (map (serveFeed (runner b .who)) (b .feeds))
+    (some-map (λ g. Kin g f × (turned t′ g ≡ f .plan .work)) (serveFeed (runner b .who)) (b .feeds)
+    (some-imp (λ g. Kin g f) (λ g. Kin g f × (turned t′ (serveFeed (runner b .who) g) ≡ f .plan .work)) new (b .feeds) h))
   where
     t′ : ℕ
     t′ = suc (b .clock)
 
-    new : (g : Feed) → Kin f g → Kin f g × (turnFeed t′ (serveFeed (runner b .who) g) .owes ≡ f .work)
-    new g e = (e, turned-released t′ (serveFeed (runner b .who) g) (ap (λ k. gone k t′) e ∙ z) ∙ ap (λ k. k .work) e)
+    new : (g : Feed) → Kin g f → Kin g f × (turned t′ (serveFeed (runner b .who) g) ≡ f .plan .work)
+    new g e = (e, turned-released t′ (serveFeed (runner b .who) g) (ap (λ p. since p t′) (e .1) ∙ z) ∙ ap (λ p. p .work) (e .1))
 
 -- a feed's piece that comes now, as it is followed from here
-pub fresh-piece : (b : Book) (f : Feed) → gone f (b .clock) ≡ 0 → Some (λ g. Kin f g × (g .owes ≡ f .work)) (b .feeds)
-    → Current (f .position) (b .clock + f .lead) (f .work) b
+pub fresh-piece : (b : Book) (f : Feed) → since (f .plan) (b .clock) ≡ 0 → Fresh f b
+    → Current (f .position) (b .clock + f .plan .lead) (f .plan .work) b
 fresh-piece b f z =
-    some-imp (λ g. Kin f g × (g .owes ≡ f .work)) (AtPiece (b .clock) (f .position) (b .clock + f .lead) (f .work))
-    (λ g h. (
-      ap (λ k. k .position) (h .0),
-      omega (arith, ap (λ k. gone k (b .clock)) (h .0), ap (λ k. k .lead) (h .0), z),
-      h .1,
-    ))
+    some-imp (λ g. Kin g f × (g .owes ≡ f .plan .work)) (AtPiece (b .clock) (f .position) (b .clock + f .plan .lead) (f .plan .work))
+    (λ g h. (h .0 .0, ap (λ p. due p (b .clock)) (h .0 .1) ∙ omega (arith, z), h .1))
     (b .feeds)
 
 -- the piece that a feed releases m + 1 ticks from now is named exactly as often as its work, before its deadline
-pub later-served : (m : ℕ) (c : Choice) (b : Book) (f : Feed) → Sound b → Follows c b → Has f b → 1 ≤ f .lead → gone f (b .clock + suc m) ≡ 0
-    → during (hits c (feed (f .position)) (b .clock + suc m + f .lead)) (b .clock + suc m) (f .lead) ≡ f .work
+pub later-served : (m : ℕ) (c : Choice) (b : Book) (f : Feed) → Sound b → Follows c b → Has f b → 1 ≤ f .plan .lead → since (f .plan) (b .clock + suc m) ≡ 0
+    → during (hits c (feed (f .position)) (b .clock + suc m + f .plan .lead)) (b .clock + suc m) (f .plan .lead) ≡ f .plan .work
 later-served zero c b f s w h k z =
     let t : step b .clock ≡ b .clock + 1 = omega (arith, step-clock b) in
-    let z′ : gone f (step b .clock) ≡ 0 = rw t z in
+    let z′ : since (f .plan) (step b .clock) ≡ 0 = rw t z in
     rw t at
-    (piece-served-in (f .lead) c (step b) (f .position) (step b .clock + f .lead) (f .work) k (step-is-sound b s) (follows-step c b w)
+    (piece-served-in (f .plan .lead) c (step b) (f .position) (step b .clock + f .plan .lead) (f .plan .work) k (step-is-sound b s) (follows-step c b w)
     (fresh-piece (step b) f z′ (released-step b f h (rw step-clock at z′)))
     refl)
 later-served (suc m) c b f s w h k z =
@@ -230,38 +230,41 @@ module _ (b : Book) (s : Sound b) where
       a-job : (j : Job) → JobInOrder (b .clock) j × Some (λ k. k ≡ j) (b .jobs) → gets (byDesk b) (jobPiece (b .clock) j) ≡ j .owes
       a-job j h =
           job-served (j .due - b .clock) (byDesk b) b (j .number) (j .due) (j .owes) s (byDesk-follows b)
-          (some-imp (λ k. k ≡ j) (LiveJob (j .number) (j .due) (j .owes)) (λ k e. (ap (λ x. x .number) e, ap (λ x. x .due) e, ap (λ x. x .owes) e)) (b .jobs) (h .1))
+          (live-here b j (h .1))
           (omega (arith, h .0 .ahead))
 
       a-feed : (f : Feed) → FeedInOrder (b .clock) f × Some (λ k. k ≡ f) (b .feeds) → gets (byDesk b) (currentPiece (b .clock) f) ≡ f .owes
-      a-feed f h = go (currentDue f (b .clock) - b .clock) refl
+      a-feed f h = go (d - b .clock) refl
         where
-          go : (n : ℕ) → currentDue f (b .clock) - b .clock ≡ n → during (hits (byDesk b) (feed (f .position)) (currentDue f (b .clock))) (b .clock) (currentDue f (b .clock) - b .clock) ≡ f .owes
+          d : ℕ
+          d = due (f .plan) (b .clock)
+
+          go : (n : ℕ) → d - b .clock ≡ n → during (hits (byDesk b) (feed (f .position)) d) (b .clock) (d - b .clock) ≡ f .owes
           go zero e = rw e (sym (h .0 .over (omega arith)))
           go (suc n) e =
               rw e
-              (piece-served n (byDesk b) b (f .position) (currentDue f (b .clock)) (f .owes) s (byDesk-follows b)
-              (some-imp (λ k. k ≡ f) (AtPiece (b .clock) (f .position) (currentDue f (b .clock)) (f .owes)) (λ k q. (ap (λ x. x .position) q, ap (λ x. currentDue x (b .clock)) q, ap (λ x. x .owes) q)) (b .feeds) (h .1))
+              (piece-served n (byDesk b) b (f .position) d (f .owes) s (byDesk-follows b)
+              (current-here b f (h .1))
               (omega arith))
 
   -- each later piece gets exactly its feed's work
-  pub desk-serves-later : (k : ℕ) → Each (λ f. gets (byDesk b) (laterPiece (b .clock) k f) ≡ f .work) (b .feeds)
+  pub desk-serves-later : (k : ℕ) → Each (λ f. gets (byDesk b) (laterPiece (b .clock) k f) ≡ f .plan .work) (b .feeds)
   unfolding gets goesTo
   desk-serves-later k =
-      each-imp (λ f. FeedInOrder (b .clock) f × Some (λ g. g ≡ f) (b .feeds)) (λ f. gets (byDesk b) (laterPiece (b .clock) k f) ≡ f .work) a-feed (b .feeds)
+      each-imp (λ f. FeedInOrder (b .clock) f × Some (λ g. g ≡ f) (b .feeds)) (λ f. gets (byDesk b) (laterPiece (b .clock) k f) ≡ f .plan .work) a-feed (b .feeds)
       (each-both (FeedInOrder (b .clock)) (λ f. Some (λ g. g ≡ f) (b .feeds)) (b .feeds) (s .order .feeds) (each-self (b .feeds)))
     where
-      a-feed : (f : Feed) → FeedInOrder (b .clock) f × Some (λ g. g ≡ f) (b .feeds) → gets (byDesk b) (laterPiece (b .clock) k f) ≡ f .work
+      a-feed : (f : Feed) → FeedInOrder (b .clock) f × Some (λ g. g ≡ f) (b .feeds) → gets (byDesk b) (laterPiece (b .clock) k f) ≡ f .plan .work
       a-feed f h =
-          let x : ℕ = laterFrom f (b .clock) k in
+          let x : ℕ = laterFrom (f .plan) (b .clock) k in
           let m : ℕ = x - suc (b .clock) in
-          let e : b .clock + suc m ≡ x = omega (arith, since-lt (f .period) (f .offset) (b .clock) (h .0 .offset)) in
-          let w : x + f .lead - x ≡ f .lead = add-sub-cancel-left x (f .lead) in
-          let got : during (hits (byDesk b) (feed (f .position)) (b .clock + suc m + f .lead)) (b .clock + suc m) (f .lead) ≡ f .work
+          let e : b .clock + suc m ≡ x = omega (arith, since-lt (f .plan) (b .clock) (h .0 .plan .offset)) in
+          let w : x + f .plan .lead - x ≡ f .plan .lead = add-sub-cancel-left x (f .plan .lead) in
+          let got : during (hits (byDesk b) (feed (f .position)) (b .clock + suc m + f .plan .lead)) (b .clock + suc m) (f .plan .lead) ≡ f .plan .work
           = later-served m (byDesk b) b f s (byDesk-follows b)
-          (some-imp (λ g. g ≡ f) (Kin f) (λ g q. ap (owing 0) q) (b .feeds) (h .1))
-          (h .0 .lead)
-          (rw e (since-later (f .period) (f .offset) (b .clock) k (h .0 .offset))) in
+          (some-imp (λ g. g ≡ f) (λ g. Kin g f) (λ g. kin g f) (b .feeds) (h .1))
+          (h .0 .plan .lead)
+          (rw e (since-later (f .plan) (b .clock) (h .0 .plan .offset) k)) in
           rw w (rw e at got)
 
 -- ROOM FITS: from a sound book the desk's own steps are a choice that serves everything, to any instant
@@ -271,6 +274,6 @@ room-fits b s F h = (
   byDesk b,
   record {
     hand = each-imp (λ p. gets (byDesk b) p ≡ p .owes) (Served F (byDesk b)) (λ p e d. omega arith) (atHand b) (desk-serves-hand b s);
-    later = λ k. each-imp (λ f. gets (byDesk b) (laterPiece (b .clock) k f) ≡ f .work) (λ f. Served F (byDesk b) (laterPiece (b .clock) k f)) (λ f e d. omega arith) (b .feeds) (desk-serves-later b s k);
+    later = λ k. each-imp (λ f. gets (byDesk b) (laterPiece (b .clock) k f) ≡ f .plan .work) (λ f. Served F (byDesk b) (laterPiece (b .clock) k f)) (λ f e d. omega arith) (b .feeds) (desk-serves-later b s k);
   },
 )

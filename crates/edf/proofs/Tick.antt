@@ -1,20 +1,21 @@
 -- A tick by earliest deadline keeps room, whatever the ties.
-use mathlib.Core.Path.{_≡_, refl, sym, _∙_, ap₂}
+use mathlib.Core.Path.{_≡_, refl, sym, _∙_, ap, ap₂}
 use mathlib.Core.Logic.{_⊎_, inl, inr}
 use mathlib.Core.List.{map}
 use Prim.Native.Nat.{ℕ, zero, suc, _+_, _-_, _≤_, _<_}
-use native.Mathlib.Nat.{le-refl, le-trans}
 use native.Mathlib.Omega.{arith}
 use lib.Dec.{ltb}
 use Rattle.lists.specs.Lists.{total, Each, Some}
-use Rattle.edf.specs.Book.{Book, Who, same}
+use Rattle.edf.specs.Book.{Book, Who, same, plans}
 use Rattle.edf.specs.Pieces.{Piece, jobPiece, currentPiece, atHand}
 use Rattle.edf.specs.Owed.{byThen, dueBy, laterBy, owedBy}
 use Rattle.edf.specs.Step.{serveJob, serveFeed, serve, turnFeed, turn, Foremost, Edf}
+use Rattle.edf.specs.Order.{PlanInOrder}
 use Rattle.edf.specs.Load.{stretch, Light}
-use Rattle.lists.proofs.Lists.{each-imp, each-map, each-append, some-imp, some-both, some-get, some-or-each, total-mono, total-zero, total-add, total-append, total-map, total-keep-le, total-falls, each}
+use Rattle.lists.proofs.Lists.{each, each-map, each-of-map, each-append, each-left, each-right, some-imp, some-both, some-get, some-or-each, total-mono, total-le, total-zero, total-add, total-append, total-map, total-keep-le, total-falls}
 use Rattle.edf.proofs.Names.{same-refl}
-use Rattle.edf.proofs.Demand.{byThen-in, byThen-due, byThen-mono, laterBy-le-stretch, feedOwes, turnFeed-owes}
+use Rattle.edf.proofs.Plans.{serve-keeps-plans}
+use Rattle.edf.proofs.Demand.{byThen-in, byThen-due, byThen-less, laterBy-le-stretch, feedOwes, turnFeed-owes}
 
 -- a sum over what is at hand, jobs and feeds apart
 pub hand-total : (F : Piece → ℕ) (b : Book)
@@ -33,6 +34,17 @@ hand-each P b js fs =
     (each-map P (jobPiece (b .clock)) (b .jobs) js)
     (each-map P (currentPiece (b .clock)) (b .feeds) fs)
 
+-- and back
+pub hand-jobs : (P : Piece → Type 0) (b : Book) → Each P (atHand b) → Each (λ j. P (jobPiece (b .clock) j)) (b .jobs)
+hand-jobs P b ps =
+    each-of-map P (jobPiece (b .clock)) (b .jobs)
+    (each-left P (map (jobPiece (b .clock)) (b .jobs)) (map (currentPiece (b .clock)) (b .feeds)) ps)
+
+pub hand-feeds : (P : Piece → Type 0) (b : Book) → Each P (atHand b) → Each (λ f. P (currentPiece (b .clock) f)) (b .feeds)
+hand-feeds P b ps =
+    each-of-map P (currentPiece (b .clock)) (b .feeds)
+    (each-right P (map (jobPiece (b .clock)) (b .jobs)) (map (currentPiece (b .clock)) (b .feeds)) ps)
+
 -- what is owed by D: each job, and each feed with all its pieces
 pub owedBy-split : (b : Book) (D : ℕ)
     → owedBy b D ≡ total (λ j. dueBy D (jobPiece (b .clock) j)) (b .jobs) + total (feedOwes (b .clock) D) (b .feeds)
@@ -41,7 +53,8 @@ owedBy-split b D =
     omega (
       arith,
       hand-total (dueBy D) b,
-      total-add (λ f. dueBy D (currentPiece (b .clock) f)) (laterBy (b .clock) D) (b .feeds),
+      total-map (laterBy (b .clock) D) (λ f. f .plan) (b .feeds),
+      total-add (λ f. dueBy D (currentPiece (b .clock) f)) (λ f. laterBy (b .clock) D (f .plan)) (b .feeds),
     )
 
 -- the piece after a tick that went to g
@@ -59,13 +72,13 @@ hand-served F g b =
     ∙ sym (hand-total (λ p. F (servePiece g p)) b)
 
 pub owedBy-served : (g : Who) (b : Book) (D : ℕ)
-    → owedBy (serve g b) D ≡ total (λ p. dueBy D (servePiece g p)) (atHand b) + total (laterBy (b .clock) D) (b .feeds)
+    → owedBy (serve g b) D ≡ total (λ p. dueBy D (servePiece g p)) (atHand b) + total (laterBy (b .clock) D) (plans (b .feeds))
 unfolding owedBy serve
-owedBy-served g b D = ap₂ _+_ (hand-served (dueBy D) g b) (total-map (laterBy (b .clock) D) (serveFeed g) (b .feeds))
+owedBy-served g b D =
+    ap₂ _+_ (hand-served (dueBy D) g b) (ap (total (laterBy (b .clock) D)) (serve-keeps-plans g b))
 
 -- as the clock goes on, no more is owed by any instant than was owed after the tick
-pub owedBy-turn : (b : Book) (D : ℕ)
-    → Each (λ f. (f .offset < f .period) × (f .lead ≤ f .period)) (b .feeds)
+pub owedBy-turn : (b : Book) (D : ℕ) → Each (λ p. (p .offset < p .period) × (p .lead ≤ p .period)) (plans (b .feeds))
     → owedBy (turn b) D ≤ owedBy b D
 unfolding turn
 owedBy-turn b D h =
@@ -75,11 +88,10 @@ owedBy-turn b D h =
       owedBy-split b D,
       total-keep-le (λ j. byThen D (j .due) (j .owes)) (λ j. ltb 0 (j .owes)) (b .jobs),
       total-map (feedOwes (suc (b .clock)) D) (turnFeed (suc (b .clock))) (b .feeds),
-      total-mono (λ f. feedOwes (suc (b .clock)) D (turnFeed (suc (b .clock)) f)) (feedOwes (b .clock) D) (b .feeds)
-          (each-imp (λ f. (f .offset < f .period) × (f .lead ≤ f .period)) (λ f. feedOwes (suc (b .clock)) D (turnFeed (suc (b .clock)) f) ≤ feedOwes (b .clock) D f)
-          (λ f s. turnFeed-owes (b .clock) D f (s .0) (s .1))
+      total-le (λ f. (f .plan .offset < f .plan .period) × (f .plan .lead ≤ f .plan .period)) (λ f. feedOwes (suc (b .clock)) D (turnFeed (suc (b .clock)) f)) (feedOwes (b .clock) D)
+          (λ f k. turnFeed-owes (b .clock) D f (k .0) (k .1))
           (b .feeds)
-          h),
+          (each-of-map (λ p. (p .offset < p .period) × (p .lead ≤ p .period)) (λ f. f .plan) (b .feeds) h),
     )
 
 -- where something at hand is due by D, the tick goes to something due by D
@@ -117,30 +129,16 @@ one-or-none zero = inr refl
 one-or-none (suc n) = inl (omega arith)
 
 served-le : (g : Who) (D : ℕ) (p : Piece) → dueBy D (servePiece g p) ≤ dueBy D p
-served-le g D p = byThen-mono D D (p .due) (p .due) (p .owes - same g (p .who)) (p .owes) (le-refl D) (le-refl (p .due)) (omega arith)
+served-le g D p = byThen-less D (p .due) (p .owes - same g (p .who)) (p .owes) (omega arith)
 
 -- THE TICK: after a tick by earliest deadline, what is owed by any instant is at most the time that is left from the next
-pub tick-leaves-room : (b : Book) (g : Who) → Edf b g → Light (b .feeds)
-    → Each (λ f. (f .offset < f .period) × (1 ≤ f .lead) × (f .lead ≤ f .period)) (b .feeds)
+pub tick-leaves-room : (b : Book) (g : Who) → Edf b g → Light (plans (b .feeds)) → Each PlanInOrder (plans (b .feeds))
     → ((D : ℕ) → owedBy b D ≤ D - b .clock)
     → (D : ℕ) → owedBy (serve g b) D ≤ D - suc (b .clock)
 unfolding owedBy Light
-tick-leaves-room b g e light shape room D =
+tick-leaves-room b g e light order room D =
     go (some-or-each (λ p. 1 ≤ dueBy D p) (λ p. dueBy D p ≡ 0) (λ p. one-or-none (dueBy D p)) (atHand b))
   where
-    after : ℕ
-    after = total (λ p. dueBy D (servePiece g p)) (atHand b)
-
-    later-small : total (laterBy (b .clock) D) (b .feeds) ≤ D - suc (b .clock)
-    later-small =
-        le-trans
-        (total-mono (laterBy (b .clock) D) (stretch (D - suc (b .clock))) (b .feeds)
-        (each-imp (λ f. (f .offset < f .period) × (1 ≤ f .lead) × (f .lead ≤ f .period)) (λ f. laterBy (b .clock) D f ≤ stretch (D - suc (b .clock)) f)
-        (λ f s. laterBy-le-stretch (b .clock) D f (s .0) (s .1) (s .2))
-        (b .feeds)
-        shape))
-        (light (D - suc (b .clock)))
-
     no-more : Each (λ p. dueBy D (servePiece g p) ≤ dueBy D p) (atHand b)
     no-more = each (λ p. dueBy D (servePiece g p) ≤ dueBy D p) (served-le g D) (atHand b)
 
@@ -158,5 +156,6 @@ tick-leaves-room b g e light shape room D =
           owedBy-served g b D,
           total-mono (λ p. dueBy D (servePiece g p)) (dueBy D) (atHand b) no-more,
           total-zero (dueBy D) (atHand b) z,
-          later-small,
+          total-le PlanInOrder (laterBy (b .clock) D) (stretch (D - suc (b .clock))) (laterBy-le-stretch (b .clock) D) (plans (b .feeds)) order,
+          light (D - suc (b .clock)),
         )

@@ -1,17 +1,31 @@
 -- The book: the desk as plain mathematics.
-use mathlib.Core.List.{List}
+use mathlib.Core.List.{List, map}
 use Prim.Native.Nat.{ℕ}
 use Rattle.lists.specs.Lists.{eq}
 
--- a feed of layers: a printer's piece comes every `period` ticks, at the instants that leave the remainder `offset`,
--- wants `work` ticks, and is due `lead` ticks after it came; `owes` is what the piece that came last still wants
-pub record Feed : Type 0 where
-  pub position : ℕ
+-- how a printer's layers come: a piece every `period` ticks, at the instants that leave the remainder `offset`; it wants
+-- `work` ticks and is due `lead` ticks after it came
+pub record Plan : Type 0 where
   pub period : ℕ
   pub work : ℕ
   pub offset : ℕ
   pub lead : ℕ
+
+-- a feed of layers at its position: its plan, and what the piece that came last still wants
+pub record Feed : Type 0 where
+  pub position : ℕ
+  pub plan : Plan
   pub owes : ℕ
+
+-- the feed with another figure of what its current piece owes
+abbrev pub owing : ℕ → Feed → Feed
+owing n f = record { position = f .position; plan = f .plan; owes = n }
+
+abbrev pub positions : List Feed → List ℕ
+positions = map (λ f. f .position)
+
+abbrev pub plans : List Feed → List Plan
+plans = map (λ f. f .plan)
 
 -- a customer's export that was promised: it still wants `owes` ticks before the instant `due`
 pub record Job : Type 0 where

@@ -7,10 +7,11 @@ pub mod Fits
 pub mod Owed
 pub mod Step
 pub mod Steps
+pub mod Chosen
 pub mod Order
 pub mod Calls
 pub mod Load
-pub mod Ahead
 pub mod Finish
 pub mod Margin
+pub mod Runs
 pub mod Kept

@@ -2,17 +2,21 @@
 use mathlib.Core.Path.{_≡_}
 use Prim.Native.Nat.{ℕ, _≤_, _<_}
 use Rattle.lists.specs.Lists.{eq, total, Each}
-use Rattle.edf.specs.Book.{Feed, Job, Book}
-use Rattle.edf.specs.Releases.{gone}
+use Rattle.edf.specs.Book.{Plan, Feed, Job, Book}
+use Rattle.edf.specs.Releases.{since}
 
--- at the instant t: a piece owes at most its feed's work, nothing before the first release, nothing from its deadline on
+-- a piece is due after it came, and no later than the next one comes
+pub record PlanInOrder (p : Plan) : Type 0 where
+  pub offset : p .offset < p .period
+  pub lead : 1 ≤ p .lead
+  pub short : p .lead ≤ p .period
+
+-- at the instant t: a piece owes at most its plan's work, nothing before the first release, nothing from its deadline on
 pub record FeedInOrder (t : ℕ) (f : Feed) : Type 0 where
-  pub offset : f .offset < f .period
-  pub lead : 1 ≤ f .lead
-  pub short : f .lead ≤ f .period
-  pub owes : f .owes ≤ f .work
-  pub early : t < f .offset → f .owes ≡ 0
-  pub over : f .lead ≤ gone f t → f .owes ≡ 0
+  pub plan : PlanInOrder (f .plan)
+  pub owes : f .owes ≤ f .plan .work
+  pub early : t < f .plan .offset → f .owes ≡ 0
+  pub over : f .plan .lead ≤ since (f .plan) t → f .owes ≡ 0
 
 -- a live job owes something and its deadline is ahead
 pub record JobInOrder (t : ℕ) (j : Job) : Type 0 where

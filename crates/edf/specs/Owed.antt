@@ -3,8 +3,8 @@ use mathlib.Core.Bool.{cond}
 use Prim.Native.Nat.{ℕ, _+_, _-_, _*_, _/_, _≤_, _<_}
 use lib.Dec.{leb}
 use Rattle.lists.specs.Lists.{total}
-use Rattle.edf.specs.Book.{Feed, Book}
-use Rattle.edf.specs.Releases.{gone}
+use Rattle.edf.specs.Book.{Plan, Book, plans}
+use Rattle.edf.specs.Releases.{since}
 use Rattle.edf.specs.Pieces.{Piece, atHand}
 
 -- the work counts where its deadline is at or before D
@@ -15,16 +15,16 @@ byThen D due owes = cond (leb due D) owes 0
 abbrev pub dueBy : ℕ → Piece → ℕ
 dueBy D p = byThen D (p .due) (p .owes)
 
--- how many of the pieces that the feed has yet to release after t are due by D
-abbrev pub laterCount : ℕ → ℕ → Feed → ℕ
-laterCount t D f = (D + gone f t - (t + f .lead)) / f .period
+-- how many of the pieces that come after t are due by D
+abbrev pub laterCount : ℕ → ℕ → Plan → ℕ
+laterCount t D p = (D + since p t - (t + p .lead)) / p .period
 
 -- what they owe together
-abbrev pub laterBy : ℕ → ℕ → Feed → ℕ
-laterBy t D f = f .work * laterCount t D f
+abbrev pub laterBy : ℕ → ℕ → Plan → ℕ
+laterBy t D p = p .work * laterCount t D p
 
 unfoldable pub owedBy : Book → ℕ → ℕ
-owedBy b D = total (dueBy D) (atHand b) + total (laterBy (b .clock) D) (b .feeds)
+owedBy b D = total (dueBy D) (atHand b) + total (laterBy (b .clock) D) (plans (b .feeds))
 
 -- there is room: by no instant is more owed than there is time until then
 unfoldable pub Room : Book → Type 0

@@ -3,7 +3,7 @@
 use mathlib.Core.List.{List, _++_, map}
 use Prim.Native.Nat.{ℕ, _+_}
 use Rattle.edf.specs.Book.{Feed, Job, Book, Who, job, feed}
-use Rattle.edf.specs.Releases.{currentDue, laterFrom}
+use Rattle.edf.specs.Releases.{due, laterFrom}
 
 -- work of `owes` ticks, wanted in the ticks from `from` up to but not including `due`
 pub record Piece : Type 0 where
@@ -16,11 +16,16 @@ abbrev pub jobPiece : ℕ → Job → Piece
 jobPiece t j = record { who = job (j .number); from = t; due = j .due; owes = j .owes }
 
 abbrev pub currentPiece : ℕ → Feed → Piece
-currentPiece t f = record { who = feed (f .position); from = t; due = currentDue f t; owes = f .owes }
+currentPiece t f = record { who = feed (f .position); from = t; due = due (f .plan) t; owes = f .owes }
 
 abbrev pub laterPiece : ℕ → ℕ → Feed → Piece
 laterPiece t k f =
-    record { who = feed (f .position); from = laterFrom f t k; due = laterFrom f t k + f .lead; owes = f .work }
+    record {
+      who = feed (f .position);
+      from = laterFrom (f .plan) t k;
+      due = laterFrom (f .plan) t k + f .plan .lead;
+      owes = f .plan .work;
+    }
 
 -- what can be worked on now: the live jobs and the current pieces
 abbrev pub atHand : Book → List Piece

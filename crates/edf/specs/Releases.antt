@@ -1,24 +1,19 @@
--- When a feed's pieces come and when they are due.
+-- When a plan's pieces come and when they are due.
 use Prim.Native.Nat.{ℕ, _+_, _-_, _*_, _%_}
-use Rattle.edf.specs.Book.{Feed}
+use Rattle.edf.specs.Book.{Plan}
 
--- how many ticks before the instant t the last of the instants came that leave the remainder `offset` when divided by
--- `period`
-unfoldable pub since : ℕ → ℕ → ℕ → ℕ
-since period offset t = (t + period - offset) % period
-
--- how long ago the feed's current piece came: 0 at a release
-abbrev pub gone : Feed → ℕ → ℕ
-gone f t = since (f .period) (f .offset) t
+-- how long ago the current piece came: 0 at a release
+unfoldable pub since : Plan → ℕ → ℕ
+since p t = (t + p .period - p .offset) % p .period
 
 -- the first release after t
-abbrev pub next : Feed → ℕ → ℕ
-next f t = t + (f .period - gone f t)
+abbrev pub next : Plan → ℕ → ℕ
+next p t = t + (p .period - since p t)
 
 -- when the current piece is due
-abbrev pub currentDue : Feed → ℕ → ℕ
-currentDue f t = t + f .lead - gone f t
+abbrev pub due : Plan → ℕ → ℕ
+due p t = t + p .lead - since p t
 
 -- when the piece comes that is k releases after the next one
-abbrev pub laterFrom : Feed → ℕ → ℕ → ℕ
-laterFrom f t k = next f t + k * f .period
+abbrev pub laterFrom : Plan → ℕ → ℕ → ℕ
+laterFrom p t k = next p t + k * p .period

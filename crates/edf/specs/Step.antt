@@ -7,8 +7,8 @@ use mathlib.Core.List.{List, [], _∷_, map}
 use Prim.Native.Nat.{ℕ, suc, pred, _-_, _≤_, _<_}
 use lib.Dec.{leb, ltb, eqb}
 use Rattle.lists.specs.Lists.{Each, Some, keep}
-use Rattle.edf.specs.Book.{Feed, Job, Book, Who, job, feed, idle, same}
-use Rattle.edf.specs.Releases.{gone}
+use Rattle.edf.specs.Book.{Feed, Job, Book, Who, job, feed, idle, same, owing}
+use Rattle.edf.specs.Releases.{since}
 use Rattle.edf.specs.Pieces.{Piece, atHand}
 
 -- jobs before feeds
@@ -60,18 +60,6 @@ ran b = record { who = runner b .who; owes = pred (runner b .owes) }
 abbrev pub serveJob : Who → Job → Job
 serveJob g j = record { number = j .number; owes = j .owes - same g (job (j .number)); due = j .due }
 
--- the feed with another figure of what its current piece owes
-abbrev pub owing : ℕ → Feed → Feed
-owing n f =
-    record {
-      position = f .position;
-      period = f .period;
-      work = f .work;
-      offset = f .offset;
-      lead = f .lead;
-      owes = n;
-    }
-
 abbrev pub serveFeed : Who → Feed → Feed
 serveFeed g f = owing (f .owes - same g (feed (f .position))) f
 
@@ -81,7 +69,8 @@ serve g b =
 
 -- at the instant x a piece that is released then is ready, and one whose deadline has come gives way
 unfoldable pub turned : ℕ → Feed → ℕ
-turned x f = cond (eqb (gone f x) 0) (f .work) (cond (leb (f .lead) (gone f x)) 0 (f .owes))
+turned x f =
+    cond (eqb (since (f .plan) x) 0) (f .plan .work) (cond (leb (f .plan .lead) (since (f .plan) x)) 0 (f .owes))
 
 abbrev pub turnFeed : ℕ → Feed → Feed
 turnFeed x f = owing (turned x f) f

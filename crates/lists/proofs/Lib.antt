@@ -1,3 +1,4 @@
 pub mod Tests
 pub mod Lists
+pub mod Pairs
 pub mod Places

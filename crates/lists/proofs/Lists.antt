@@ -142,9 +142,24 @@ module _ {A : Type 0} where
   total-mono f g [] h = le-refl 0
   total-mono f g (x ∷ xs) h = omega (arith, h .0, total-mono f g xs (h .1))
 
+  -- the same where every element of the list has P
+  pub total-le : (P : A → Type 0) (f g : A → ℕ) → ((x : A) → P x → f x ≤ g x) → (xs : List A) → Each P xs → total f xs ≤ total g xs
+  total-le P f g h xs ps = total-mono f g xs (each-imp P (λ x. f x ≤ g x) h xs ps)
+
+  -- and where it holds of every element there is
+  pub total-le-all : (f g : A → ℕ) → ((x : A) → f x ≤ g x) → (xs : List A) → total f xs ≤ total g xs
+  total-le-all f g h xs = total-mono f g xs (each (λ x. f x ≤ g x) h xs)
+
   pub total-same : (f g : A → ℕ) (xs : List A) → Each (λ x. f x ≡ g x) xs → total f xs ≡ total g xs
   total-same f g [] h = refl
   total-same f g (x ∷ xs) h = omega (arith, h .0, total-same f g xs (h .1))
+
+  pub total-eq : (P : A → Type 0) (f g : A → ℕ) → ((x : A) → P x → f x ≡ g x) → (xs : List A) → Each P xs → total f xs ≡ total g xs
+  total-eq P f g h xs ps = total-same f g xs (each-imp P (λ x. f x ≡ g x) h xs ps)
+
+  pub total-none : (xs : List A) → total (λ x. 0) xs ≡ 0
+  total-none [] = refl
+  total-none (x ∷ xs) = omega (arith, total-none xs)
 
   pub total-zero : (f : A → ℕ) (xs : List A) → Each (λ x. f x ≡ 0) xs → total f xs ≡ 0
   total-zero f [] h = refl
@@ -243,6 +258,6 @@ module _ {A B : Type 0} where
   -- rows first or columns first
   pub total-swap : (h : A → B → ℕ) (xs : List A) (ys : List B)
       → total (λ x. total (h x) ys) xs ≡ total (λ y. total (λ x. h x y) xs) ys
-  total-swap h [] ys = sym (total-zero (λ y. 0) ys (each (λ y. 0 ≡ 0) (λ y. refl) ys))
+  total-swap h [] ys = sym (total-none ys)
   total-swap h (x ∷ xs) ys =
       omega (arith, total-swap h xs ys, total-add (λ y. h x y) (λ y. total (λ z. h z y) xs) ys)
