@@ -1,176 +1,127 @@
 -- Asking for a job: what the lines let pass, what is then judged, and that the contract leaves one outcome.
 use mathlib.Core.Path.{_≡_, refl, sym, ap, _∙_, subst}
 use mathlib.Core.Logic.{inl, inr}
-use mathlib.Core.Bool.{Bool, true, false, cond}
+use mathlib.Core.Bool.{true, false, not, false≢true}
 use mathlib.Core.List.{List, [], _∷_, _++_, map}
-use Prim.Native.Nat.{ℕ, _≤_}
+use Prim.Native.Nat.{ℕ, _≤_, _<_}
 use native.Mathlib.Omega.{arith}
 use lib.ListN.{length}
-use lib.Seq.{length-take-le}
-use borrow.Author.Tests.{not-false, leb-true, ltb-true}
-use Rattle.lists.specs.Lists.{Each}
+use borrow.Author.Tests.{not-false, leb-true, leb-false}
 use Rattle.lists.proofs.Tests.{both}
-use Rattle.ticks.specs.Ticks.{mostJob, isJob, ticks}
+use Rattle.ticks.specs.Ticks.{mostJob, jobLength, ticks}
 use Rattle.ticks.proofs.Tests.{from-one}
-use Rattle.feeds.specs.Feeds.{live as liveFeeds}
+use Rattle.feeds.specs.Feeds.{inUse}
 use Rattle.jobs.specs.declared.Job.{Job}
 use Rattle.jobs.specs.declared.Table.{Table}
-use Rattle.jobs.specs.Jobs.{mostJobs, tableOf, JobsIn, live as liveJobs}
+use Rattle.jobs.specs.Jobs.{mostJobs, tableOf, JobsIn, live}
 use Rattle.jobs.proofs.Numbers.{lacks-times}
-use Rattle.jobs.proofs.Places.{live-of, jobs-in-taken}
+use Rattle.jobs.proofs.Places.{live-of, live-count, tidy-of, jobs-in-taken}
 use Rattle.edf.specs.Calls.{taking}
-use Rattle.ledger.specs.Reading.{bookJob, bookOf, jobOf}
-use Rattle.ledger.proofs.Reading.{jobs-of-book}
-use Rattle.room.specs.Owed.{Ordered}
+use Rattle.answers.specs.declared.Refusal.{Refusal}
+use Rattle.answers.specs.declared.Verdict.{Verdict}
+use Rattle.answers.specs.declared.Verdict.the-variants.{Yes, No}
+use Rattle.answers.specs.Answers.{firstOf, isYes}
+use Rattle.answers.proofs.Answers.{yes-first, yes-both, yes-is-not-no}
+use Rattle.ledger.specs.declared.Ledger.{Ledger}
+use Rattle.ledger.specs.State.{inOrder, Sized, InOrder, moved}
+use Rattle.ledger.specs.Books.{bookJob, bookAt, bookOf}
+use Rattle.ledger.proofs.InOrder.{in-order}
 use Rattle.desk.specs.declared.Desk.{Desk}
 use Rattle.desk.specs.declared.Answer.{Answer}
-use Rattle.desk.specs.declared.Request.the-variants as request
-use Rattle.refusals.specs.declared.Refusal.{Refusal}
-use Rattle.refusals.specs.declared.Refusal.the-variants.{NotInOrder}
-use Rattle.refusals.specs.declared.Verdict.{Verdict}
-use Rattle.refusals.specs.declared.Verdict.the-variants.{Yes, No}
-use Rattle.desk.specs.State.{inOrder, book, deskOf, Sized}
-use Rattle.refusals.proofs.Refusals.{yes-is-not-no}
-use Rattle.refusals.specs.Refusals.{Line, firstOf}
+use Rattle.desk.specs.State.{book}
 use Rattle.desk.specs.Calls.{disorder}
-use Rattle.desk.specs.Asking.{askLines, requested, requestBy, requestOf, with-job, Admissible, Judged, Asked}
-use Rattle.desk.proofs.State.{in-order}
-use Rattle.desk.proofs.Calls.{few-feeds, few-jobs, feeds-back}
-
--- where no line holds, each does not
-pub all-pass : (ls : List Line) → firstOf ls ≡ Yes → Each (λ l. l .holds ≡ false) ls
-unfolding firstOf
-all-pass [] e = tt
-all-pass (l ∷ ls) e = go (l .holds) refl e (λ h. all-pass ls h)
-  where
-    go : (b : Bool) → l .holds ≡ b → cond b (No (l .refusal)) (firstOf ls) ≡ Yes → (firstOf ls ≡ Yes → Each (λ k. k .holds ≡ false) ls)
-        → (l .holds ≡ false) × Each (λ k. k .holds ≡ false) ls
-    go true h p rest = absurd (yes-is-not-no (l .refusal) (sym p))
-    go false h p rest = (h, rest p)
+use Rattle.desk.specs.Asking.{requestLines, placeLines, askLines, requested, with-job, Admissible, Judged, Asked}
+use Rattle.desk.proofs.Calls.{jobs-append}
 
 -- A REQUEST THAT NO OTHER LINE STOPS
-pub admissible : (d : Desk) (number work lead : ℕ) → Sized d → inOrder d ≡ true → firstOf (askLines d number (ticks work) (ticks lead)) ≡ Yes
+pub admissible : (d : Desk) (number work lead : ℕ) → Sized (d .ledger) → firstOf (askLines d number (ticks work) (ticks lead)) ≡ Yes
     → Admissible d (requested d number work lead)
-admissible d number work lead s o e =
-    let t = all-pass (askLines d number (ticks work) (ticks lead)) e in
-    let lengths = both (isJob (ticks work)) (isJob (ticks lead)) (not-false _ (t .1 .0)) in
+admissible d number work lead s e =
+    let l = d .ledger in
+    let t = yes-first (disorder d) _ e in
+    let u = yes-both (requestLines (l .clock) number (ticks work) (ticks lead)) (placeLines (l .table) number) (t .1) in
+    let zero = yes-first _ _ (u .0) in
+    let outside = yes-first _ _ (zero .1) in
+    let past = yes-first _ _ (outside .1) in
+    let numbered = yes-first _ _ (u .1) in
+    let full = yes-first _ _ (numbered .1) in
+    let lengths = both (jobLength (ticks work)) (jobLength (ticks lead)) (not-false _ (outside .0)) in
     let w = from-one mostJob (ticks work) (lengths .0) in
-    let l = from-one mostJob (ticks lead) (lengths .1) in
+    let far = from-one mostJob (ticks lead) (lengths .1) in
     record {
       sized = s;
-      order = o;
+      order = not-false _ (t .0);
       job = record {
-        number = leb-true _ _ (not-false _ (t .0));
+        number = leb-true _ _ (not-false _ (zero .0));
         owed = w;
-        ahead = omega (arith, l .0);
-        near = omega (arith, l .1);
-        within = leb-true _ _ (not-false _ (t .1 .1 .0));
+        ahead = omega (arith, far .0);
+        near = omega (arith, far .1);
+        within = leb-true _ _ (not-false _ (past .0));
       };
-      free = lacks-times number (liveJobs (d .table)) (not-false _ (t .1 .1 .1 .0));
-      space = ltb-true _ _ (not-false _ (t .1 .1 .1 .1 .0));
+      free = lacks-times number (live (l .table)) (not-false _ (numbered .0));
+      space = leb-false _ _ (full .0);
     }
 
--- the request as the lines leave it, and what it says of them
-module _ (d : Desk) (number work lead : ℕ) where
-  abbrev lines : List Line
-  lines = disorder d ∷ askLines d number (ticks work) (ticks lead)
+-- with the job that is asked for the state is still in order, and its book is the book with that job
+module _ (d : Desk) (j : Job) (a : Admissible d j) (t : Table) (e : t ≡ tableOf (live (d .ledger .table) ++ (j ∷ []))) where
+  abbrev l : Ledger
+  l = d .ledger
 
-  pub request-stopped : (x : Refusal) → firstOf (disorder d ∷ askLines d number (ticks work) (ticks lead)) ≡ No x → request.No x ≡ requestOf d number work lead
-  unfolding requestOf
-  request-stopped x e = ap (λ v. requestBy v (requested d number work lead)) (sym e)
+  order : InOrder l
+  order = in-order l (a .sized) (a .order)
 
-  pub request-made : firstOf (disorder d ∷ askLines d number (ticks work) (ticks lead)) ≡ Yes → request.Job (requested d number work lead) ≡ requestOf d number work lead
-  unfolding requestOf
-  request-made e = ap (λ v. requestBy v (requested d number work lead)) (sym e)
+  taken-live : live t ≡ live (l .table) ++ (j ∷ [])
+  taken-live = ap live e ∙ live-of (live (l .table) ++ (j ∷ []))
 
-  pub request-no : (x : Refusal) → requestOf d number work lead ≡ request.No x → firstOf (disorder d ∷ askLines d number (ticks work) (ticks lead)) ≡ No x
-  unfolding requestOf
-  request-no x h = go (firstOf lines) refl h
-    where
-      go : (v : Verdict) → firstOf lines ≡ v → requestBy v (requested d number work lead) ≡ request.No x → firstOf lines ≡ No x
-      go Yes e k = absurd (let z : _≡_ {A = ℕ} 0 1 = cc in omega arith)
-      go (No y) e k = let same : y ≡ x = cc in e ∙ ap No same
-
-  pub request-job : (j : Job) → requestOf d number work lead ≡ request.Job j
-      → (firstOf (disorder d ∷ askLines d number (ticks work) (ticks lead)) ≡ Yes) × (j ≡ requested d number work lead)
-  unfolding requestOf
-  request-job j h = go (firstOf lines) refl h
-    where
-      go : (v : Verdict) → firstOf lines ≡ v → requestBy v (requested d number work lead) ≡ request.Job j → (firstOf lines ≡ Yes) × (j ≡ requested d number work lead)
-      go Yes e k = (e, cc)
-      go (No y) e k = absurd (let z : _≡_ {A = ℕ} 0 1 = cc in omega arith)
-
--- past line 13
-pub lines-pass : (d : Desk) (number work lead : ℕ) → firstOf (disorder d ∷ askLines d number (ticks work) (ticks lead)) ≡ Yes
-    → (inOrder d ≡ true) × (firstOf (askLines d number (ticks work) (ticks lead)) ≡ Yes)
-unfolding firstOf
-lines-pass d number work lead e =
-    let t = all-pass (disorder d ∷ askLines d number (ticks work) (ticks lead)) e in
-    (not-false _ (t .0), sym (ap (λ b. cond b (No NotInOrder) (firstOf (askLines d number (ticks work) (ticks lead)))) (t .0)) ∙ e)
-
--- the job that is asked for, where no line stops the request
-pub request-admissible : (d : Desk) (number work lead : ℕ) (j : Job) → Sized d → requestOf d number work lead ≡ request.Job j → Admissible d j
-request-admissible d number work lead j s h =
-    let k = request-job d number work lead j h in
-    let p = lines-pass d number work lead (k .0) in
-    subst (Admissible d) (sym (k .1)) (admissible d number work lead s (p .0) (p .1))
-
--- one more job, read
-book-append : (js : List Job) (j : Job) → map bookJob (js ++ (j ∷ [])) ≡ map bookJob js ++ (bookJob j ∷ [])
-book-append [] j = refl
-book-append (k ∷ js) j = ap (bookJob k ∷_) (book-append js j)
-
-module _ (d : Desk) (j : Job) (a : Admissible d j) (t : Table) (e : t ≡ tableOf (liveJobs (d .table) ++ (j ∷ []))) where
-  taken-live : liveJobs t ≡ liveJobs (d .table) ++ (j ∷ [])
-  taken-live = ap liveJobs e ∙ live-of (liveJobs (d .table) ++ (j ∷ []))
-
-  -- with the job that is asked for the state is still in order
-  pub taken-ordered : Ordered (d .clock) (d .feeds) t
-  taken-ordered =
-      let o = in-order d (a .sized) (a .order) in
-      let few = few-jobs d (a .sized) (a .order) in
-      let many : length (liveJobs (d .table)) ≡ d .table .count
-      = length-take-le (d .table .count) (d .table .jobs) (omega (arith, few, a .sized .jobs)) in
-      let js : JobsIn (d .clock) (liveJobs (d .table) ++ (j ∷ []))
-      = jobs-in-taken (d .clock) (liveJobs (d .table)) j (o .jobs) (omega (arith, a .space)) (a .job) (a .free) in
+  pub taken-in-order : InOrder (moved (d .ledger) (d .ledger .clock) (d .ledger .feeds) t)
+  taken-in-order =
+      let js : JobsIn (l .clock) (live (l .table) ++ (j ∷ []))
+      = jobs-in-taken (l .clock) (live (l .table)) j (order .jobs) (omega (arith, a .space, live-count (l .table) (order .tidyTable))) (a .job) (a .free) in
       record {
-        order = record { clock = o .clock; feeds = o .feeds; jobs = subst (JobsIn (d .clock)) (sym taken-live) js; pieces = o .pieces };
-        fewFeeds = few-feeds d (a .sized) (a .order);
-        fewJobs = subst (λ k. k .count ≤ mostJobs) (sym e) (js .few);
+        clock = order .clock;
+        feeds = order .feeds;
+        jobs = subst (JobsIn (l .clock)) (sym taken-live) js;
+        tidyFeeds = order .tidyFeeds;
+        tidyTable = subst Rattle.jobs.specs.Jobs.Tidy (sym e) (tidy-of (live (l .table) ++ (j ∷ [])) (js .few));
       }
 
-  -- its book is the book with that job
-  pub taken-book : bookOf (d .clock) (liveFeeds (d .feeds)) (liveJobs t) ≡ with-job d j
+  pub taken-book : bookOf (moved (d .ledger) (d .ledger .clock) (d .ledger .feeds) t) ≡ with-job d j
   unfolding taking
   taken-book =
-      ap (bookOf (d .clock) (liveFeeds (d .feeds))) taken-live
-      ∙ (λ i. record { clock = d .clock .0; feeds = book d .feeds; jobs = book-append (liveJobs (d .table)) j i })
+      ap (bookAt (l .clock) (inUse (l .feeds))) taken-live
+      ∙ (λ i. record { clock = l .clock .0; feeds = book d .feeds; jobs = jobs-append (live (l .table)) j i })
 
-  -- and it is written so
-  pub taken-desk : _≡_ {A = Desk} (record { clock = d .clock; feeds = d .feeds; table = t }) (deskOf (with-job d j))
-  unfolding taking
-  taken-desk =
-      let js = liveJobs (d .table) ++ (j ∷ []) in
-      λ i. record {
-        clock = d .clock;
-        feeds = feeds-back d (a .sized) (a .order) i;
-        table = (e ∙ ap tableOf (sym (jobs-of-book js) ∙ ap (map jobOf) (book-append (liveJobs (d .table)) j))) i;
+module _ (d : Desk) (number work lead : ℕ) where
+  -- an ask that a line stops
+  pub stopped-asked : (x : Refusal) → firstOf (askLines d number (ticks work) (ticks lead)) ≡ No x
+      → Asked d number work lead (record { desk = d; verdict = No x })
+  stopped-asked x e =
+      record {
+        stopped = λ y f. λ i. record { desk = d; verdict = (sym e ∙ f) i };
+        judged = λ f. absurd (yes-is-not-no x (sym f ∙ e));
       }
 
--- an ask that a line stops
-pub stopped-asked : (d : Desk) (number work lead : ℕ) (x : Refusal) → firstOf (disorder d ∷ askLines d number (ticks work) (ticks lead)) ≡ No x
-    → Asked d number work lead (record { desk = d; verdict = No x })
-stopped-asked d number work lead x e =
-    record {
-      stopped = λ y f. λ i. record { desk = d; verdict = (sym e ∙ f) i };
-      judged = λ f. absurd (yes-is-not-no x (sym f ∙ e));
-    }
+  -- the same told by the answer
+  pub not-yes-asked : (v : Verdict) → v ≡ firstOf (askLines d number (ticks work) (ticks lead)) → isYes (firstOf (askLines d number (ticks work) (ticks lead))) ≡ false
+      → Asked d number work lead (record { desk = d; verdict = v })
+  not-yes-asked v e n = go v e (ap isYes e ∙ n)
+    where
+      go : (w : Verdict) → w ≡ firstOf (askLines d number (ticks work) (ticks lead)) → isYes w ≡ false → Asked d number work lead (record { desk = d; verdict = w })
+      go Yes f k = absurd (false≢true (sym k))
+      go (No x) f k = stopped-asked x (sym f)
 
--- an ask that is judged
-pub judged-asked : (d : Desk) (number work lead : ℕ) (r : Answer) → firstOf (disorder d ∷ askLines d number (ticks work) (ticks lead)) ≡ Yes
-    → Judged d (requested d number work lead) r → Asked d number work lead r
-judged-asked d number work lead r e j =
-    record { stopped = λ y f. absurd (yes-is-not-no y (sym e ∙ f)); judged = λ f. j }
+  -- an ask that is judged
+  pub judged-asked : (r : Answer) → firstOf (askLines d number (ticks work) (ticks lead)) ≡ Yes
+      → Judged d (requested d number work lead) r → Asked d number work lead r
+  judged-asked r e j = record { stopped = λ y f. absurd (yes-is-not-no y (sym e ∙ f)); judged = λ f. j }
+
+  -- a yes: no line stopped it
+  pub said-yes : (r : Answer) → Asked d number work lead r → r .verdict ≡ Yes → firstOf (askLines d number (ticks work) (ticks lead)) ≡ Yes
+  said-yes r a y = go (firstOf (askLines d number (ticks work) (ticks lead))) refl
+    where
+      go : (v : Verdict) → firstOf (askLines d number (ticks work) (ticks lead)) ≡ v → firstOf (askLines d number (ticks work) (ticks lead)) ≡ Yes
+      go Yes e = e
+      go (No x) e = absurd (yes-is-not-no x (sym y ∙ ap (λ k. k .verdict) (a .stopped x e)))
 
 -- TWO OUTCOMES THAT THE CONTRACT ALLOWS ARE THE SAME
 judged-once : (d : Desk) (j : Job) (r s : Answer) → Judged d j r → Judged d j s → r ≡ s
@@ -181,8 +132,8 @@ judged-once d j r s (inr a) (inl b) = absurd (a .0 (b .0))
 judged-once d j r s (inr a) (inr b) = a .1 ∙ sym (b .1)
 
 pub asked-once : (d : Desk) (number work lead : ℕ) (r s : Answer) → Asked d number work lead r → Asked d number work lead s → r ≡ s
-asked-once d number work lead r s a b = go (firstOf (disorder d ∷ askLines d number (ticks work) (ticks lead))) refl
+asked-once d number work lead r s a b = go (firstOf (askLines d number (ticks work) (ticks lead))) refl
   where
-    go : (v : Verdict) → firstOf (disorder d ∷ askLines d number (ticks work) (ticks lead)) ≡ v → r ≡ s
+    go : (v : Verdict) → firstOf (askLines d number (ticks work) (ticks lead)) ≡ v → r ≡ s
     go Yes e = judged-once d (requested d number work lead) r s (a .judged e) (b .judged e)
     go (No x) e = a .stopped x e ∙ sym (b .stopped x e)

@@ -1,31 +1,41 @@
--- The calls on a state in order, as the mathematics has them.
+-- What the calls change in a state in order is the call of the mathematics, written back.
 use mathlib.Core.Path.{_≡_, refl, sym, ap, _∙_}
 use mathlib.Core.Bool.{Bool, true, false, not, cond}
-use mathlib.Core.List.{List, [], _∷_, map}
-use Prim.Native.Nat.{ℕ, _≤_, _<_}
+use mathlib.Core.List.{List, [], _∷_, _++_, map}
+use Prim.Native.Nat.{ℕ}
 use lib.Dec.{eqb}
 use Rattle.lists.specs.Lists.{keep}
-use Rattle.lists.proofs.Tests.{all-of}
-use Rattle.ticks.specs.Ticks.{lastInstant}
-use Rattle.feeds.specs.Feeds.{mostFeeds, feedsOf, live as liveFeeds}
-use Rattle.feeds.proofs.Limits.{feeds-pass}
+use Rattle.feeds.specs.declared.Feeds.{Feeds}
+use Rattle.feeds.specs.Feeds.{feedsOf, inUse}
+use Rattle.feeds.specs.Pieces.{rested}
 use Rattle.jobs.specs.declared.Job.{Job}
-use Rattle.jobs.specs.Jobs.{mostJobs, tableOf, others, live as liveJobs}
-use Rattle.jobs.proofs.Limits.{table-in}
-use Rattle.edf.specs.Calls.{ending, resting}
-use Rattle.ledger.specs.Reading.{bookJob, jobOf}
-use Rattle.ledger.specs.Pieces.{restedFeeds}
-use Rattle.ledger.proofs.Reading.{feeds-of-book, jobs-of-book}
-use Rattle.ledger.proofs.Positions.{rested-book}
-use Rattle.serving.specs.Tick.{Steppable}
+use Rattle.jobs.specs.declared.Table.{Table}
+use Rattle.jobs.specs.Jobs.{tableOf, others, live}
+use Rattle.edf.specs.Calls.{taking, ending, resting}
+use Rattle.ledger.specs.declared.Ledger.{Ledger}
+use Rattle.ledger.specs.State.{moved, inOrder, InOrder}
+use Rattle.ledger.specs.Books.{bookFeeds, bookJob, bookOf, jobOf, owingAs, rewritten, whoIs}
+use Rattle.ledger.proofs.Books.{owing-as-read, jobs-of-book}
+use Rattle.ledger.proofs.Pieces.{rested-read}
+use Rattle.ticks.specs.Ticks.{ticks}
+use Rattle.edf.specs.Step.{ran, step}
+use Rattle.answers.specs.declared.Who.the-variants.{Idle}
+use Rattle.answers.specs.declared.Refusal.the-variants.{NotInOrder}
+use Rattle.answers.specs.declared.Verdict.{Verdict}
+use Rattle.answers.specs.declared.Verdict.the-variants.{Yes, No}
+use Rattle.answers.specs.Answers.{firstOf, onYes}
+use Rattle.answers.proofs.Answers.{stops, goes-on}
+use Rattle.serving.specs.declared.Stepped as serving
+use Rattle.serving.specs.Tick.{lastLine, steppedOf}
 use Rattle.desk.specs.declared.Desk.{Desk}
-use Rattle.desk.specs.State.{inOrder, book, deskOf, Sized}
-use Rattle.desk.proofs.State.{in-order, feeds-are-kept, jobs-are-kept}
+use Rattle.desk.specs.declared.Stepped.{Stepped}
+use Rattle.desk.specs.State as desk
+use Rattle.desk.specs.Calls.{disorder, stepLines, stepOf}
 
 -- the jobs of other numbers
-others-book : (n : ℕ) (js : List Job) → others n js ≡ map jobOf (keep (λ j. not (eqb n (j .number))) (map bookJob js))
-others-book n [] = refl
-others-book n (j ∷ js) = go (others-book n js) (not (eqb n (j .number)))
+others-read : (n : ℕ) (js : List Job) → others n js ≡ map jobOf (keep (λ j. not (eqb n (j .number))) (map bookJob js))
+others-read n [] = refl
+others-read n (j ∷ js) = go (others-read n js) (not (eqb n (j .number)))
   where
     go : others n js ≡ map jobOf (keep (λ k. not (eqb n (k .number))) (map bookJob js))
         → (b : Bool)
@@ -34,40 +44,67 @@ others-book n (j ∷ js) = go (others-book n js) (not (eqb n (j .number)))
     go e true = ap (j ∷_) e
     go e false = e
 
-module _ (d : Desk) (s : Sized d) (h : inOrder d ≡ true) where
-  pub few-feeds : d .feeds .count ≤ mostFeeds
-  unfolding inOrder
-  few-feeds = let t = all-of _ h in feeds-pass (d .feeds) (t .1 .0) .few
+-- one more job
+pub jobs-append : (js : List Job) (j : Job) → map bookJob (js ++ (j ∷ [])) ≡ map bookJob js ++ (bookJob j ∷ [])
+jobs-append [] j = refl
+jobs-append (k ∷ js) j = ap (bookJob k ∷_) (jobs-append js j)
 
-  pub few-jobs : d .table .count ≤ mostJobs
-  unfolding inOrder
-  few-jobs = let t = all-of _ h in table-in (d .clock) (d .table) (t .1 .1 .0) .few
-
-  -- what a tick asks for
-  pub steppable : d .clock .0 < lastInstant → Steppable (d .clock) (d .feeds) (d .table)
-  steppable l =
-      record {
-        order = in-order d s h;
-        goesOn = l;
-        feedsKept = feeds-are-kept d s h;
-        tableKept = jobs-are-kept d s h;
-        fewFeeds = few-feeds;
-        fewJobs = few-jobs;
-      }
-
+module _ (l : Ledger) (h : InOrder l) where
   -- the feeds and the jobs, written back as they were
-  pub feeds-back : d .feeds ≡ deskOf (book d) .feeds
-  feeds-back = feeds-are-kept d s h ∙ ap feedsOf (sym (feeds-of-book 1 (liveFeeds (d .feeds))))
+  feeds-back : l .feeds ≡ feedsOf (owingAs (bookFeeds 1 (inUse (l .feeds))) (inUse (l .feeds)))
+  feeds-back = h .tidyFeeds .filled ∙ ap feedsOf (sym (owing-as-read 1 (inUse (l .feeds))))
 
-  jobs-back : d .table ≡ deskOf (book d) .table
-  jobs-back = jobs-are-kept d s h ∙ ap tableOf (sym (jobs-of-book (liveJobs (d .table))))
+  jobs-back : l .table ≡ tableOf (map jobOf (map bookJob (live (l .table))))
+  jobs-back = h .tidyTable .filled ∙ ap tableOf (sym (jobs-of-book (live (l .table))))
 
   -- a job that is out
-  pub ended-desk : (n : ℕ) → _≡_ {A = Desk} (record { clock = d .clock; feeds = d .feeds; table = tableOf (others n (liveJobs (d .table))) }) (deskOf (ending n (book d)))
+  pub ended-ledger : (n : ℕ) (t : Table) → t ≡ tableOf (others n (live (l .table))) → moved l (l .clock) (l .feeds) t ≡ rewritten l (ending n (bookOf l))
   unfolding ending
-  ended-desk n = λ i. record { clock = d .clock; feeds = feeds-back i; table = tableOf (others-book n (liveJobs (d .table)) i) }
+  ended-ledger n t e = λ i. record { clock = l .clock; feeds = feeds-back i; table = (e ∙ ap tableOf (others-read n (live (l .table)))) i }
 
   -- a piece that rests
-  pub rested-desk : (p : ℕ) → _≡_ {A = Desk} (record { clock = d .clock; feeds = feedsOf (restedFeeds p 1 (liveFeeds (d .feeds))); table = d .table }) (deskOf (resting p (book d)))
+  pub rested-ledger : (p : ℕ) (s : Feeds) → s ≡ feedsOf (rested p 1 (inUse (l .feeds))) → moved l (l .clock) s (l .table) ≡ rewritten l (resting p (bookOf l))
   unfolding resting
-  rested-desk p = λ i. record { clock = d .clock; feeds = feedsOf (rested-book p 1 (liveFeeds (d .feeds)) i); table = jobs-back i }
+  rested-ledger p s e = λ i. record { clock = l .clock; feeds = (e ∙ ap feedsOf (rested-read p 1 (inUse (l .feeds)))) i; table = jobs-back i }
+
+  -- a job that is taken
+  pub taken-ledger : (j : Job) (t : Table) → t ≡ tableOf (live (l .table) ++ (j ∷ [])) → moved l (l .clock) (l .feeds) t ≡ rewritten l (taking (bookJob j) (bookOf l))
+  unfolding taking
+  taken-ledger j t e =
+      let jobs = e ∙ ap tableOf (sym (jobs-of-book (live (l .table) ++ (j ∷ []))) ∙ ap (map jobOf) (jobs-append (live (l .table)) j)) in
+      λ i. record { clock = l .clock; feeds = feeds-back i; table = jobs i }
+
+-- a step of a state that is not in order
+pub step-stopped : (d : Desk) → inOrder (d .ledger) ≡ false
+    → _≡_ {A = Stepped} (record { desk = d; verdict = No NotInOrder; who = Idle; owes = ticks 0 }) (stepOf d)
+unfolding stepOf
+step-stopped d out =
+    let says : firstOf (stepLines d) ≡ No NotInOrder = stops (disorder d) (lastLine (d .ledger) ∷ []) (ap not out) in
+    λ i. record {
+      desk = onYes (sym says i) (desk.rewritten d (step (desk.book d))) d;
+      verdict = sym says i;
+      who = onYes (sym says i) (whoIs (ran (desk.book d) .who)) Idle;
+      owes = onYes (sym says i) (ticks (ran (desk.book d) .owes)) (ticks 0);
+    }
+
+-- what a desk answers of a step below it
+abbrev pub steppedDesk : Desk → serving.Stepped → Stepped
+steppedDesk d s = record { desk = desk.with d (s .ledger); verdict = s .verdict; who = s .who; owes = s .owes }
+
+-- a step of a state in order is the step below
+pub step-by-serving : (d : Desk) → inOrder (d .ledger) ≡ true → steppedDesk d (steppedOf (d .ledger)) ≡ stepOf d
+unfolding stepOf steppedOf
+step-by-serving d fine =
+    let l = d .ledger in
+    let says : firstOf (stepLines d) ≡ firstOf (lastLine l ∷ []) = goes-on (disorder d) (lastLine l ∷ []) (firstOf (lastLine l ∷ [])) (ap not fine) refl in
+    (λ i. record { desk = with-either (firstOf (lastLine l ∷ [])) i; verdict = firstOf (lastLine l ∷ []); who = onYes (firstOf (lastLine l ∷ [])) (whoIs (ran (desk.book d) .who)) Idle; owes = onYes (firstOf (lastLine l ∷ [])) (ticks (ran (desk.book d) .owes)) (ticks 0) })
+    ∙ (λ i. record {
+      desk = onYes (sym says i) (desk.rewritten d (step (desk.book d))) d;
+      verdict = sym says i;
+      who = onYes (sym says i) (whoIs (ran (desk.book d) .who)) Idle;
+      owes = onYes (sym says i) (ticks (ran (desk.book d) .owes)) (ticks 0);
+    })
+  where
+    with-either : (v : Verdict) → desk.with d (onYes v (rewritten (d .ledger) (step (bookOf (d .ledger)))) (d .ledger)) ≡ onYes v (desk.rewritten d (step (desk.book d))) d
+    with-either Yes = refl
+    with-either (No r) = refl

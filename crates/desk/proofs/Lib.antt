@@ -1,12 +1,6 @@
-pub mod State
-pub mod Answers
+-- The laws that every crate above needs.
 pub mod Opening
 pub mod Calls
 pub mod Asking
 pub mod Reachable
-pub mod Shadow
-pub mod Splits
-pub mod Promises
-pub mod Finish
-pub mod Reports
-pub mod Examples
+pub mod Good

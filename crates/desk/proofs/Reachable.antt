@@ -1,72 +1,73 @@
--- Every state that a call hands back from an opening onward is in order and its book is sound.
-use mathlib.Core.Path.{_≡_, refl, sym, _∙_, subst}
+-- What a call hands back on a state in order whose book is sound is such a state again.
+use mathlib.Core.Path.{_≡_, refl, sym, _∙_, ap, subst}
 use mathlib.Core.Bool.{Bool, true, false, not, cond}
 use mathlib.Core.List.{List, [], _∷_, _++_, map}
 use Prim.Native.Nat.{ℕ, suc, _+_, _≤_, _<_}
 use native.Mathlib.Omega.{arith}
 use lib.Dec.{ltb, eqb}
 use lib.ListN.{length, length-map, length-append}
-use lib.Seq.{length-take-le}
 use Rattle.lists.specs.Lists.{eq, Each, keep}
 use Rattle.lists.proofs.Lists.{each-imp, each-append, each-map, each-keep, total-map}
 use Rattle.lists.proofs.Places.{length-filled}
-use Rattle.ticks.specs.Ticks.{lastInstant}
+use Rattle.ticks.specs.declared.Instant.{Instant}
+use Rattle.ticks.specs.Ticks.{lastInstant, instant}
 use Rattle.feeds.specs.declared.Feed.{Feed}
-use Rattle.feeds.specs.Feeds.{mostFeeds, noFeed, FeedIn, Passing, plain, live as liveFeeds}
-use Rattle.feeds.proofs.Kept.{same-passing}
+use Rattle.feeds.specs.Feeds.{mostFeeds, noFeed, FeedIn, inUse, feedsOf}
+use Rattle.feeds.specs.Lines.{Passing, FeedsIn}
+use Rattle.feeds.specs.Pieces.{PieceIn}
+use Rattle.feeds.proofs.Passing.{in-use-of, tidy-of}
+use Rattle.feeds.proofs.Lines.{passing-none}
 use Rattle.jobs.specs.declared.Job.{Job}
-use Rattle.jobs.specs.Jobs.{mostJobs, noJob, live as liveJobs}
-use Rattle.edf.specs.Book.{Feed as BookFeed, Job as BookJob, Book, Who}
-use Rattle.edf.specs.Step.{runner, serveJob, serveFeed, serve, turnFeed, turn, stepBy, step}
-use Rattle.edf.specs.Calls.{taking, ending, restFeed, resting, Askable}
-use Rattle.edf.specs.Load.{Opens, openedFeed, opened, Sound}
-use Rattle.edf.proofs.Sound.{step-is-sound}
-use Rattle.edf.proofs.Calls.{ending-is-sound, resting-is-sound}
+use Rattle.jobs.specs.Jobs.{mostJobs, noJob, live}
+use Rattle.jobs.proofs.Places.{live-count}
+use Rattle.jobs.proofs.Places as jobs
+use Rattle.edf.specs.Book as edf
+use Rattle.edf.specs.Step.{runner, serveJob, serve, turn, stepBy, step}
+use Rattle.edf.specs.Order.{PlanInOrder}
+use Rattle.edf.specs.Calls.{taking, ending, resting, Askable}
+use Rattle.edf.specs.Load.{opened, Sound}
+use Rattle.edf.proofs.Loads.{Opens}
+use Rattle.edf.proofs.Plans as plans
 use Rattle.edf.proofs.Opening.{opening-is-sound}
-use Rattle.ledger.specs.Reading.{bookFeeds, bookJob, feedOf, jobOf, Placed}
-use Rattle.ledger.specs.InOrder.{JobHeld, Held}
-use Rattle.ledger.proofs.Reading.{placed, feeds-of-book}
-use Rattle.ledger.proofs.InOrder.{book-held, book-light, positions-once}
+use Rattle.ledger.specs.declared.Ledger.{Ledger}
+use Rattle.ledger.specs.State.{Sized, InOrder, inOrder}
+use Rattle.ledger.specs.Books.{bookFeeds, bookJob, bookOf, jobOf, owingAs, rewritten, JobHeld, SameFeeds, Held}
+use Rattle.ledger.proofs.Books.{length-owing-as, book-of-rewritten}
+use Rattle.ledger.proofs.InOrder as ledger
 use Rattle.desk.specs.declared.Desk.{Desk}
-use Rattle.desk.specs.State.{book, deskOf, Good}
+use Rattle.desk.specs.State as state
+use Rattle.desk.specs.State.{book, Good, empty}
+use Rattle.desk.specs.Opening.{laid, openedDesk, Fresh}
 use Rattle.desk.specs.Asking.{with-job, Admissible}
-use Rattle.desk.proofs.State.{in-order, held-desk, book-of-desk}
 
--- a book that is sound and that a desk can hold is written as a good desk, and read back from it
-pub good-desk : (b : Book) → Held b → Sound b → Good (deskOf b)
-good-desk b h s =
+-- a state that a book is written into has as many places as before
+pub rewritten-sized : (l : Ledger) (b : edf.Book) → InOrder l → length (b .jobs) ≤ mostJobs → Sized (rewritten l b)
+rewritten-sized l b o few =
     let many : length (map jobOf (b .jobs)) ≡ length (b .jobs) = length-map (b .jobs) jobOf in
+    let fs = inUse (l .feeds) in
     record {
-      sized = record {
-        feeds = length-filled mostFeeds noFeed (map feedOf (b .feeds)) (h .feeds .few);
-        jobs = length-filled mostJobs noJob (map jobOf (b .jobs)) (omega (arith, h .few));
-      };
-      order = held-desk b h;
-      sound = subst Sound (sym (book-of-desk b h)) s;
+      feeds = length-filled mostFeeds noFeed (owingAs (b .feeds) fs) (omega (arith, length-owing-as (b .feeds) fs, o .feeds .passing .few));
+      jobs = length-filled mostJobs noJob (map jobOf (b .jobs)) (omega arith);
     }
 
-pub good-held : (d : Desk) → Good d → Held (book d)
-good-held d g = book-held (d .clock) (liveFeeds (d .feeds)) (liveJobs (d .table)) (in-order d (g .sized) (g .order))
+-- a state that a book can be written into, which is then in order and read as that book
+module _ (l : Ledger) (b : edf.Book) (o : InOrder l) (h : Held l b) where
+  pub good-rewritten : (d : Desk) → d .ledger ≡ rewritten l b → Sound b → Good d
+  good-rewritten d e s =
+      subst Good (λ i. record { ledger = sym e i })
+      (record {
+        sized = rewritten-sized l b o (h .few);
+        order = ledger.in-order-made (rewritten l b) (ledger.rewritten-in-order l b o h);
+        sound = subst Sound (sym (book-of-rewritten l b (h .feeds))) s;
+      })
 
--- feeds changed in what their current pieces owe alone
-module _ (h : BookFeed → BookFeed)
-    (same : (f : BookFeed) → plain (feedOf (h f)) ≡ plain (feedOf f))
-    (position : (f : BookFeed) → h f .position ≡ f .position)
-    (lead : (f : BookFeed) → h f .lead ≡ f .lead)
-    (period : (f : BookFeed) → h f .period ≡ f .period) where
-  plain-changed : (fs : List BookFeed) → map plain (map feedOf fs) ≡ map plain (map feedOf (map h fs))
-  plain-changed [] = refl
-  plain-changed (f ∷ fs) = λ i. sym (same f) i ∷ plain-changed fs i
+pub good-order : (d : Desk) → Good d → InOrder (d .ledger)
+good-order d g = ledger.in-order (d .ledger) (g .sized) (g .order)
 
-  passing-changed : (fs : List BookFeed) → Passing (map feedOf fs) → Passing (map feedOf (map h fs))
-  passing-changed fs p = same-passing (map feedOf fs) (map feedOf (map h fs)) (plain-changed fs) p
+pub good-held : (d : Desk) → Good d → Held (d .ledger) (book d)
+good-held d g = ledger.state-held (d .ledger) (good-order d g)
 
-  placed-changed : (k : ℕ) (fs : List BookFeed) → Placed k fs → Placed k (map h fs)
-  placed-changed k [] p = tt
-  placed-changed k (f ∷ fs) p =
-      ((position f ∙ p .0 .0, lead f ∙ p .0 .1 ∙ sym (period f)), placed-changed (suc k) fs (p .1))
-
-length-keep : (t : BookJob → Bool) (js : List BookJob) → length (keep t js) ≤ length js
+length-keep : (t : edf.Job → Bool) (js : List edf.Job) → length (keep t js) ≤ length js
 length-keep t [] = omega arith
 length-keep t (j ∷ js) = go (t j) (length-keep t js)
   where
@@ -74,54 +75,61 @@ length-keep t (j ∷ js) = go (t j) (length-keep t js)
     go true ih = omega arith
     go false ih = omega arith
 
--- A STEP keeps what a desk can hold
-pub held-step : (b : Book) → Held b → Sound b → b .clock < lastInstant → Held (step b)
+-- a step takes no job in
+pub step-few : (b : edf.Book) → length (step b .jobs) ≤ length (b .jobs)
 unfolding step stepBy turn serve
-held-step b h s l =
-    let g : Who = runner b .who in
-    let t′ : ℕ = suc (b .clock) in
-    let served : List BookFeed = map (serveFeed g) (b .feeds) in
+step-few b =
+    let g : edf.Who = runner b .who in
     let many : length (map (serveJob g) (b .jobs)) ≡ length (b .jobs) = length-map (b .jobs) (serveJob g) in
-    record {
-      order = step-is-sound b s .order;
-      clock = l;
-      feeds = passing-changed (turnFeed t′) (λ f. refl) (λ f. refl) (λ f. refl) (λ f. refl) served
-          (passing-changed (serveFeed g) (λ f. refl) (λ f. refl) (λ f. refl) (λ f. refl) (b .feeds) (h .feeds));
-      placed = placed-changed (turnFeed t′) (λ f. refl) (λ f. refl) (λ f. refl) (λ f. refl) 1 served
-          (placed-changed (serveFeed g) (λ f. refl) (λ f. refl) (λ f. refl) (λ f. refl) 1 (b .feeds) (h .placed));
-      few = omega (arith, length-keep (λ j. ltb 0 (j .owes)) (map (serveJob g) (b .jobs)), h .few);
-      jobs = each-keep (JobHeld t′) (λ j. ltb 0 (j .owes)) (map (serveJob g) (b .jobs))
-          (each-map (λ j. ltb 0 (j .owes) ≡ true → JobHeld t′ j) (serveJob g) (b .jobs)
-          (each-imp (JobHeld (b .clock)) (λ j. ltb 0 (serveJob g j .owes) ≡ true → JobHeld t′ (serveJob g j))
-          (λ j k e. record { number = k .number; owes = omega (arith, k .owes); near = omega (arith, k .near); within = k .within })
-          (b .jobs)
-          (h .jobs)));
-    }
+    omega (arith, length-keep (λ j. ltb 0 (j .owes)) (map (serveJob g) (b .jobs)))
 
-pub held-ending : (b : Book) (n : ℕ) → Held b → Sound b → Held (ending n b)
-unfolding ending
-held-ending b n h s =
-    record {
-      order = ending-is-sound b n s .order;
-      clock = h .clock;
-      feeds = h .feeds;
-      placed = h .placed;
-      few = omega (arith, length-keep (λ j. not (eqb n (j .number))) (b .jobs), h .few);
-      jobs = each-keep (JobHeld (b .clock)) (λ j. not (eqb n (j .number))) (b .jobs)
-          (each-imp (JobHeld (b .clock)) (λ j. not (eqb n (j .number)) ≡ true → JobHeld (b .clock) j) (λ j k e. k) (b .jobs) (h .jobs));
-    }
+module _ (l : Ledger) (b : edf.Book) (h : Held l b) where
+  -- feeds that stay at their positions and by their plans
+  same-feeds : (fs : List edf.Feed) (clock : ℕ) (js : List edf.Job) → edf.positions fs ≡ edf.positions (b .feeds) → edf.plans fs ≡ edf.plans (b .feeds)
+      → SameFeeds l (record { clock = clock; feeds = fs; jobs = js })
+  same-feeds fs clock js p q = record { positions = p ∙ h .feeds .positions; plans = q ∙ h .feeds .plans }
 
-pub held-resting : (b : Book) (p : ℕ) → Held b → Sound b → Held (resting p b)
-unfolding resting
-held-resting b p h s =
-    record {
-      order = resting-is-sound b p s .order;
-      clock = h .clock;
-      feeds = passing-changed (restFeed p) (λ f. refl) (λ f. refl) (λ f. refl) (λ f. refl) (b .feeds) (h .feeds);
-      placed = placed-changed (restFeed p) (λ f. refl) (λ f. refl) (λ f. refl) (λ f. refl) 1 (b .feeds) (h .placed);
-      few = h .few;
-      jobs = h .jobs;
-    }
+  -- A STEP keeps what the state can hold
+  pub held-step : Sound (step b) → b .clock < lastInstant → Held l (step b)
+  unfolding step stepBy turn serve
+  held-step s lt =
+      let g : edf.Who = runner b .who in
+      let t′ : ℕ = suc (b .clock) in
+      record {
+        order = s .order;
+        clock = lt;
+        feeds = same-feeds _ _ _ (plans.step-keeps-positions b) (plans.step-keeps-plans b);
+        few = omega (arith, step-few b, h .few);
+        jobs = each-keep (JobHeld t′) (λ j. ltb 0 (j .owes)) (map (serveJob g) (b .jobs))
+            (each-map (λ j. ltb 0 (j .owes) ≡ true → JobHeld t′ j) (serveJob g) (b .jobs)
+            (each-imp (JobHeld (b .clock)) (λ j. ltb 0 (serveJob g j .owes) ≡ true → JobHeld t′ (serveJob g j))
+            (λ j k e. record { number = k .number; owes = omega (arith, k .owes); near = omega (arith, k .near); within = k .within })
+            (b .jobs)
+            (h .jobs)));
+      }
+
+  pub held-ending : (n : ℕ) → Sound (ending n b) → Held l (ending n b)
+  unfolding ending
+  held-ending n s =
+      record {
+        order = s .order;
+        clock = h .clock;
+        feeds = same-feeds _ _ _ refl refl;
+        few = omega (arith, length-keep (λ j. not (eqb n (j .number))) (b .jobs), h .few);
+        jobs = each-keep (JobHeld (b .clock)) (λ j. not (eqb n (j .number))) (b .jobs)
+            (each-imp (JobHeld (b .clock)) (λ j. not (eqb n (j .number)) ≡ true → JobHeld (b .clock) j) (λ j k e. k) (b .jobs) (h .jobs));
+      }
+
+  pub held-resting : (p : ℕ) → Sound (resting p b) → Held l (resting p b)
+  unfolding resting
+  held-resting p s =
+      record {
+        order = s .order;
+        clock = h .clock;
+        feeds = same-feeds _ _ _ (plans.resting-keeps-positions p b) (plans.resting-keeps-plans p b);
+        few = h .few;
+        jobs = h .jobs;
+      }
 
 -- a request that no other line stops may be asked for
 pub admissible-askable : (d : Desk) (j : Job) → Admissible d j → Askable (book d) (bookJob j)
@@ -129,52 +137,88 @@ unfolding eq
 admissible-askable d j a =
     record {
       sound = record { owes = a .job .owed .0; ahead = a .job .ahead };
-      free = total-map (λ k. eq (j .number) (k .number)) bookJob (liveJobs (d .table)) ∙ a .free;
+      free = total-map (λ k. eq (j .number) (k .number)) bookJob (live (d .ledger .table)) ∙ a .free;
     }
 
-pub held-taking : (d : Desk) (j : Job) → Held (book d) → Sound (with-job d j) → Admissible d j → Held (with-job d j)
+pub held-taking : (d : Desk) (j : Job) → Held (d .ledger) (book d) → Sound (with-job d j) → Admissible d j → Held (d .ledger) (with-job d j)
 unfolding taking
 held-taking d j h s a =
-    let many : length (map bookJob (liveJobs (d .table))) ≡ length (liveJobs (d .table)) = length-map (liveJobs (d .table)) bookJob in
-    let live : length (liveJobs (d .table)) ≡ d .table .count
-    = length-take-le (d .table .count) (d .table .jobs) (omega (arith, a .sized .jobs, a .space)) in
-    let more : length (map bookJob (liveJobs (d .table)) ++ (bookJob j ∷ [])) ≡ length (map bookJob (liveJobs (d .table))) + 1
-    = length-append (map bookJob (liveJobs (d .table))) (bookJob j ∷ []) in
+    let js = live (d .ledger .table) in
+    let o = ledger.in-order (d .ledger) (a .sized) (a .order) in
+    let many : length (map bookJob js) ≡ length js = length-map js bookJob in
+    let more : length (map bookJob js ++ (bookJob j ∷ [])) ≡ length (map bookJob js) + 1 = length-append (map bookJob js) (bookJob j ∷ []) in
     record {
       order = s .order;
       clock = h .clock;
-      feeds = h .feeds;
-      placed = h .placed;
-      few = omega (arith, a .space);
-      jobs = each-append (JobHeld (d .clock .0)) (map bookJob (liveJobs (d .table))) (bookJob j ∷ []) (h .jobs)
+      feeds = record { positions = h .feeds .positions; plans = h .feeds .plans };
+      few = omega (arith, a .space, live-count (d .ledger .table) (o .tidyTable));
+      jobs = each-append (JobHeld (d .ledger .clock .0)) (map bookJob js) (bookJob j ∷ []) (h .jobs)
           (record { number = a .job .number; owes = a .job .owed .1; near = a .job .near; within = a .job .within }, tt);
     }
 
-shape : (k : ℕ) (gs : List Feed) → Each FeedIn gs → Each (λ f. (f .offset < f .period) × (1 ≤ f .lead) × (f .lead ≤ f .period)) (bookFeeds k gs)
-shape k [] h = tt
-shape k (g ∷ gs) h = ((h .0 .offset, h .0 .period .0, omega arith), shape (suc k) gs (h .1))
+plans-in : (k : ℕ) (fs : List Feed) → Each FeedIn fs → Each PlanInOrder (edf.plans (bookFeeds k fs))
+plans-in k [] h = tt
+plans-in k (f ∷ fs) h = (record { offset = h .0 .offset; lead = h .0 .period .0; short = omega arith }, plans-in (suc k) fs (h .1))
 
 -- feeds that pass are feeds that an opening accepts
 pub passing-opens : (fs : List Feed) → Passing fs → Opens (bookFeeds 1 fs)
-passing-opens fs p = record { each = shape 1 fs (p .within); positions = λ n. positions-once n 1 fs; light = book-light 1 fs p }
+passing-opens fs p = record { each = plans-in 1 fs (p .within); positions = λ n. ledger.positions-once n 1 fs; light = ledger.book-light 1 fs p }
 
 pub opened-sound : (start : ℕ) (fs : List Feed) → Passing fs → Sound (opened start (bookFeeds 1 fs))
-opened-sound start fs p =
-    let o = passing-opens fs p in opening-is-sound start (bookFeeds 1 fs) (o .each) (o .positions) (o .light)
+opened-sound start fs p = opening-is-sound start (bookFeeds 1 fs) (passing-opens fs p)
 
-pub opened-held : (start : ℕ) (fs : List Feed) → Passing fs → start ≤ lastInstant → Held (opened start (bookFeeds 1 fs))
-unfolding opened
-opened-held start fs p l =
+-- a desk with feeds that pass and of which no piece has come is in order
+laid-in-order : (fs : List Feed) (clock : Instant) → Passing fs → Fresh fs → clock .0 ≤ lastInstant → InOrder (laid fs clock .ledger)
+laid-in-order fs clock p z l =
+    let pieces : Each (PieceIn clock) fs
+    = each-imp (λ f. f .owes .0 ≡ 0) (PieceIn clock) (λ f e. record { owes = omega (arith, e); early = λ k. e }) fs z in
     record {
-      order = opened-sound start fs p .order;
       clock = l;
-      feeds = passing-changed (openedFeed start) (λ f. refl) (λ f. refl) (λ f. refl) (λ f. refl) (bookFeeds 1 fs)
-          (subst Passing (sym (feeds-of-book 1 fs)) p);
-      placed = placed-changed (openedFeed start) (λ f. refl) (λ f. refl) (λ f. refl) (λ f. refl) 1 (bookFeeds 1 fs) (placed 1 fs);
-      few = omega arith;
-      jobs = tt;
+      feeds = subst (FeedsIn clock) (sym (in-use-of fs)) (record { passing = p; pieces = pieces });
+      jobs = record { few = omega arith; each = tt; once = λ n. omega arith };
+      tidyFeeds = tidy-of fs (p .few);
+      tidyTable = jobs.tidy-of [] (omega arith);
     }
 
 -- AN OPENING: feeds that pass, at an instant within the clock's limits
-pub opened-is-good : (start : ℕ) (fs : List Feed) → Passing fs → start ≤ lastInstant → Good (deskOf (opened start (bookFeeds 1 fs)))
-opened-is-good start fs p l = good-desk (opened start (bookFeeds 1 fs)) (opened-held start fs p l) (opened-sound start fs p)
+pub opened-is-good : (fs : List Feed) (clock : Instant) → Passing fs → Fresh fs → clock .0 ≤ lastInstant → Good (openedDesk fs clock)
+unfolding opened
+opened-is-good fs clock p z l =
+    let b = opened (clock .0) (bookFeeds 1 fs) in
+    let s = opened-sound (clock .0) fs p in
+    let same : bookFeeds 1 (inUse (feedsOf fs)) ≡ bookFeeds 1 fs = ap (bookFeeds 1) (in-use-of fs) in
+    good-rewritten (laid fs clock .ledger) b (laid-in-order fs clock p z l)
+    (record {
+      order = s .order;
+      clock = l;
+      feeds = record {
+        positions = plans.opened-keeps-positions (clock .0) (bookFeeds 1 fs) ∙ ap edf.positions (sym same);
+        plans = plans.opened-keeps-plans (clock .0) (bookFeeds 1 fs) ∙ ap edf.plans (sym same);
+      };
+      few = omega arith;
+      jobs = tt;
+    })
+    (openedDesk fs clock)
+    refl
+    s
+
+-- its book is the one that the mathematics opens
+pub opened-book : (fs : List Feed) (clock : Instant) → book (openedDesk fs clock) ≡ opened (clock .0) (bookFeeds 1 fs)
+opened-book fs clock =
+    let same : bookFeeds 1 (inUse (feedsOf fs)) ≡ bookFeeds 1 fs = ap (bookFeeds 1) (in-use-of fs) in
+    book-of-rewritten (laid fs clock .ledger) (opened (clock .0) (bookFeeds 1 fs))
+    (record {
+      positions = plans.opened-keeps-positions (clock .0) (bookFeeds 1 fs) ∙ ap edf.positions (sym same);
+      plans = plans.opened-keeps-plans (clock .0) (bookFeeds 1 fs) ∙ ap edf.plans (sym same);
+    })
+
+-- THE EMPTY STATE is in order and its book is sound
+pub empty-is-good : Good empty
+unfolding opened
+empty-is-good =
+    let o = laid-in-order [] (instant 0) passing-none tt (omega arith) in
+    record {
+      sized = record { feeds = length-filled mostFeeds noFeed [] (omega arith); jobs = length-filled mostJobs noJob [] (omega arith) };
+      order = ledger.in-order-made (empty .ledger) o;
+      sound = opened-sound 0 [] passing-none;
+    }

@@ -3,7 +3,3 @@ pub mod Answers
 pub mod Opening
 pub mod Calls
 pub mod Asking
-pub mod Runs
-pub mod Kept
-pub mod Finish
-pub mod Examples

@@ -1,41 +1,34 @@
 // The export desk: the state of a box and every call on it, each with its refusals in the order of the rules.
 // It must not know text or files.
+use answers::Refusal;
+use answers::Verdict;
+use answers::Who;
 use feeds::Feeds;
-use feeds::Listed;
 use jobs::Found;
 use jobs::Job;
 use jobs::Table;
+use ledger::Ledger;
 use listing::Part;
-use listing::Runner;
-use refusals::Refusal;
-use refusals::Verdict;
-use serving::Named;
-use serving::Who;
 use ticks::Instant;
 use ticks::Length;
 ghost use mathlib.Core.Path.{_≡_};
-ghost use mathlib.Core.Bool.{true};
-ghost use mathlib.Core.List.{[], _∷_};
 ghost use Prim.Native.Nat.{_≤_, _<_, _^_};
 ghost use lib.ListN.{length};
 ghost use Rattle.ticks.specs.Ticks.{lastInstant};
-ghost use Rattle.feeds.specs.Lines.{shapeOf};
+ghost use Rattle.feeds.specs.Feeds.{inUse, Tidy};
 ghost use Rattle.jobs.specs.Jobs.{mostJobs};
 ghost use Rattle.listing.specs.Labels.{labelOf, PartAt};
-ghost use Rattle.feeds.specs.declared.Listed.the-variants.{Fine};
-ghost use Rattle.desk.specs.State.{inOrder, empty};
-ghost use Rattle.refusals.specs.Refusals.{firstOf};
-ghost use Rattle.desk.specs.Answers.{verdictOf, ranOf};
-ghost use Rattle.desk.specs.Opening.{openedOf};
-ghost use Rattle.desk.specs.Calls.{stepOf, endOf, restOf, countedOf, listedOf, runnerOf};
-ghost use Rattle.desk.specs.Asking.{askLines, fullLine, requestOf, Admissible, Judged, Asked};
+ghost use Rattle.answers.specs.Answers.{firstOf};
+ghost use Rattle.ledger.specs.State.{inOrder};
+ghost use Rattle.desk.specs.State.{empty, with};
+ghost use Rattle.desk.specs.Opening.{openedOf, openedAt, Fresh};
+ghost use Rattle.desk.specs.Calls.{stepOf, endLines, endOf, restLines, restOf, listLines, countedOf, listedOf, runnerOf};
+ghost use Rattle.desk.specs.Asking.{requestLines, placeLines, askLines, requestOf, Admissible, Judged, Asked};
 
-// The state of a box: what the clock reads, the feeds with their current pieces, and the live jobs.
+// The state of a box, and what the calls keep beside it.
 #[repr(C)]
 pub struct Desk {
-    pub clock: Instant,
-    pub feeds: Feeds,
-    pub table: Table,
+    pub ledger: Ledger,
 }
 
 // The state that a call hands back, and its answer.
@@ -44,57 +37,25 @@ pub struct Answer {
     pub verdict: Verdict,
 }
 
-// Whom a step named and what that piece of work still owes, or why there was no step.
-pub enum Ran {
-    Job(u32, Length),
-    Feed(u32, Length),
-    Idle,
-    No(Refusal),
-}
-
-// The state that a step hands back, and its answer.
+// The state that a step hands back and its answer; whom it named, and what that piece of work still owes. Nobody and
+// nothing where the step is refused.
 pub struct Stepped {
     pub desk: Desk,
-    pub ran: Ran,
+    pub verdict: Verdict,
+    pub who: Who,
+    pub owes: Length,
 }
 
-// A request as the lines leave it: the refusal, or the job that is asked for.
-pub enum Request {
-    No(Refusal),
-    Job(Job),
+// A request as the lines leave it: the answer, and the job that is asked for, none where it is refused.
+pub struct Request {
+    pub verdict: Verdict,
+    pub job: Job,
 }
 
-// How many jobs the list call wrote, or why it wrote none.
-pub enum Counted {
-    Jobs(usize),
-    No(Refusal),
-}
-
-// What the opening says of a lent list.
-fn verdict_of(listed: Listed) -> Verdict
-    ensures { λ r. ⌜ r ≡ verdictOf listed ⌝ }
-{
-    match listed {
-        Listed::Fine => Verdict::Yes,
-        Listed::NotThree => Verdict::No(Refusal::NotThree),
-        Listed::TooMany => Verdict::No(Refusal::TooManyFeeds),
-        Listed::Outside => Verdict::No(Refusal::Outside),
-        Listed::RoundTooLong => Verdict::No(Refusal::RoundTooLong),
-        Listed::TooMuch => Verdict::No(Refusal::TooMuchLoad),
-    }
-}
-
-// What a step answers of the tick that it gave.
-fn ran_of(named: Named) -> Ran
-    ensures { λ r. ⌜ r ≡ ranOf named ⌝ }
-{
-    let who = named.who;
-    let owes = named.owes;
-    match who {
-        Who::Job(number) => Ran::Job(number, owes),
-        Who::Feed(position) => Ran::Feed(position, owes),
-        Who::Idle => Ran::Idle,
-    }
+// The answer of the list call, and how many jobs it wrote.
+pub struct Counted {
+    pub verdict: Verdict,
+    pub count: usize,
 }
 
 impl Desk {
@@ -103,46 +64,35 @@ impl Desk {
         ensures { λ r. ⌜ r ≡ empty ⌝ }
     {
         Desk {
-            clock: Instant::FIRST,
-            feeds: Feeds::none(),
-            table: Table::none(),
+            ledger: Ledger::none(),
         }
     }
 
     // Whether any state that is handed in is in order.
     pub fn in_order(self) -> bool
-        ensures { λ r. ⌜ r ≡ inOrder self ⌝ }
+        ensures { λ r. ⌜ r ≡ inOrder (self .ledger) ⌝ }
     {
-        if !self.clock.within() {
-            return false;
-        }
-        if !self.feeds.feeds_pass() {
-            return false;
-        }
-        if !self.table.in_order(self.clock) {
-            return false;
-        }
-        ledger::pieces_in(self.feeds, self.clock)
+        self.ledger.in_order()
     }
 
-    // Opening with a list of feeds, three numbers a feed, at an instant.
+    // The desk with another state of the box.
+    pub fn with(self, ledger: Ledger) -> Desk
+        ensures { λ r. ⌜ r ≡ with self ledger ⌝ }
+    {
+        Desk { ledger }
+    }
+
+    // Opening with a list of feeds at an instant: lines 12 and 8, then 3, then 2, 9 and 10.
     pub fn open(list: &[u32], start: u64) -> Answer
         ensures { λ r. ⌜ r ≡ openedOf (now (list .entry)) start ⌝ }
     {
-        match feeds::shape(list) {
-            Listed::Fine => Desk::open_shaped(list, start),
-            other => Answer {
+        let shape = feeds::shape(list);
+        if !shape.is_yes() {
+            return Answer {
                 desk: Desk::none(),
-                verdict: verdict_of(other),
-            },
+                verdict: shape,
+            };
         }
-    }
-
-    // The opening past lines 12 and 8: first the instant, then the feeds.
-    fn open_shaped(list: &[u32], start: u64) -> Answer
-        requires { ⌜ shapeOf (length (now list)) ≡ Fine ⌝ }
-        ensures { λ r. ⌜ r ≡ openedOf (now (list .entry)) start ⌝ }
-    {
         let clock = Instant::at(start);
         if !clock.within() {
             return Answer {
@@ -150,22 +100,25 @@ impl Desk {
                 verdict: Verdict::No(Refusal::PastLast),
             };
         }
-        let reading = feeds::read(list);
-        let answer = reading.answer;
-        let feeds = reading.feeds;
-        match answer {
-            Listed::Fine => Answer {
-                desk: Desk {
-                    clock,
-                    feeds: ledger::arrive(feeds, clock),
-                    table: Table::none(),
-                },
-                verdict: Verdict::Yes,
-            },
-            other => Answer {
+        Desk::open_at(feeds::taken(list), clock)
+    }
+
+    // The opening of feeds that lines 12 and 8 let pass, at an instant that the clock can read.
+    fn open_at(feeds: Feeds, clock: Instant) -> Answer
+        requires { ⌜ Tidy feeds × Fresh (inUse feeds) × (clock .0 ≤ lastInstant) ⌝ }
+        ensures { λ r. ⌜ r ≡ openedAt (inUse feeds) clock ⌝ }
+    {
+        let verdict = feeds.sound();
+        if !verdict.is_yes() {
+            return Answer {
                 desk: Desk::none(),
-                verdict: verdict_of(other),
-            },
+                verdict,
+            };
+        }
+        let ledger = Ledger::none().moved(clock, feeds.arrive(clock), Table::none());
+        Answer {
+            desk: Desk::none().with(ledger),
+            verdict,
         }
     }
 
@@ -176,116 +129,154 @@ impl Desk {
         if !self.in_order() {
             return Stepped {
                 desk: self,
-                ran: Ran::No(Refusal::NotInOrder),
+                verdict: Verdict::No(Refusal::NotInOrder),
+                who: Who::Idle,
+                owes: Length::NONE,
             };
         }
-        let last = Instant::last();
-        if !last.is_after(self.clock) {
-            return Stepped {
-                desk: self,
-                ran: Ran::No(Refusal::PastLast),
-            };
-        }
-        let ticked = serving::tick(self.clock, self.feeds, self.table);
-        let clock = ticked.clock;
-        let feeds = ticked.feeds;
-        let table = ticked.table;
-        let named = ticked.named;
+        let stepped = serving::step(self.ledger);
+        let ledger = stepped.ledger;
+        let verdict = stepped.verdict;
+        let who = stepped.who;
+        let owes = stepped.owes;
         Stepped {
-            desk: Desk {
-                clock,
-                feeds,
-                table,
-            },
-            ran: ran_of(named),
+            desk: self.with(ledger),
+            verdict,
+            who,
+            owes,
         }
+    }
+
+    // Lines 13 and 7 of an end.
+    fn end_stops(self, number: u32) -> Verdict
+        ensures { λ r. ⌜ r ≡ firstOf (endLines self number) ⌝ }
+    {
+        if !self.in_order() {
+            return Verdict::No(Refusal::NotInOrder);
+        }
+        if !self.ledger.table.has(number) {
+            return Verdict::No(Refusal::NothingThere);
+        }
+        Verdict::Yes
     }
 
     // Ending a job before its time.
     pub fn end(self, number: u32) -> Answer
         ensures { λ r. ⌜ r ≡ endOf self number ⌝ }
     {
-        if !self.in_order() {
+        let verdict = self.end_stops(number);
+        if !verdict.is_yes() {
             return Answer {
                 desk: self,
-                verdict: Verdict::No(Refusal::NotInOrder),
+                verdict,
             };
         }
-        match self.table.find(number) {
-            Found::At(at) => {
-                let table = self.table.without(at);
-                let mut desk = self;
-                desk.table = table;
-                Answer {
-                    desk,
-                    verdict: Verdict::Yes,
-                }
-            }
-            Found::Nothing => Answer {
-                desk: self,
-                verdict: Verdict::No(Refusal::NothingThere),
-            },
+        let ledger = self.ledger;
+        let next = ledger.moved(ledger.clock, ledger.feeds, ledger.table.end(number));
+        Answer {
+            desk: self.with(next),
+            verdict,
         }
+    }
+
+    // Lines 13 and 7 of a rest.
+    fn rest_stops(self, position: u32) -> Verdict
+        ensures { λ r. ⌜ r ≡ firstOf (restLines self position) ⌝ }
+    {
+        if !self.in_order() {
+            return Verdict::No(Refusal::NotInOrder);
+        }
+        if self.ledger.feeds.owes_at(position).is_none() {
+            return Verdict::No(Refusal::NothingThere);
+        }
+        Verdict::Yes
     }
 
     // Resting a feed's current piece.
     pub fn rest(self, position: u32) -> Answer
         ensures { λ r. ⌜ r ≡ restOf self position ⌝ }
     {
-        if !self.in_order() {
+        let verdict = self.rest_stops(position);
+        if !verdict.is_yes() {
             return Answer {
                 desk: self,
-                verdict: Verdict::No(Refusal::NotInOrder),
+                verdict,
             };
         }
-        let owes = ledger::owes_at(self.feeds, position);
-        if owes.is_none() {
-            return Answer {
-                desk: self,
-                verdict: Verdict::No(Refusal::NothingThere),
-            };
-        }
-        let feeds = ledger::rest_at(self.feeds, position);
-        let mut desk = self;
-        desk.feeds = feeds;
+        let ledger = self.ledger;
+        let next = ledger.moved(ledger.clock, ledger.feeds.rest(position), ledger.table);
         Answer {
-            desk,
-            verdict: Verdict::Yes,
+            desk: self.with(next),
+            verdict,
         }
     }
 
-    // Lines 1 to 5 for a request on a state in order.
-    fn ask_stops(self, number: u32, work: Length, lead: Length) -> Verdict
-        requires { ⌜ (self .clock .0 ≤ lastInstant) × (self .table .count ≤ mostJobs) × (lead .0 < 2 ^ 32) ⌝ }
-        ensures { λ r. ⌜ r ≡ firstOf (askLines self number work lead) ⌝ }
+    // Lines 1, 2 and 3: those of the request itself.
+    fn request_stops(clock: Instant, number: u32, work: Length, lead: Length) -> Verdict
+        requires { ⌜ (clock .0 ≤ lastInstant) × (lead .0 < 2 ^ 32) ⌝ }
+        ensures { λ r. ⌜ r ≡ firstOf (requestLines clock number work lead) ⌝ }
     {
-        if number < 1 {
+        if number < Job::LOWEST {
             return Verdict::No(Refusal::NumberZero);
         }
-        if !work.is_job() {
+        if !work.suits_job() {
             return Verdict::No(Refusal::Outside);
         }
-        if !lead.is_job() {
+        if !lead.suits_job() {
             return Verdict::No(Refusal::Outside);
         }
-        let deadline = self.clock.plus(lead);
-        if !deadline.within() {
+        if !clock.plus(lead).within() {
             return Verdict::No(Refusal::PastLast);
         }
-        match self.table.find(number) {
-            Found::At(_) => Verdict::No(Refusal::NumberLive),
-            Found::Nothing => self.full(),
-        }
+        Verdict::Yes
     }
 
-    // Line 5.
-    fn full(self) -> Verdict
-        ensures { λ r. ⌜ r ≡ firstOf (fullLine self ∷ []) ⌝ }
+    // Lines 4 and 5: those of the place where the job would stand.
+    fn place_stops(table: Table, number: u32) -> Verdict
+        requires { ⌜ table .count ≤ mostJobs ⌝ }
+        ensures { λ r. ⌜ r ≡ firstOf (placeLines table number) ⌝ }
     {
-        if self.table.count < Job::MOST {
-            return Verdict::Yes;
+        if table.has(number) {
+            return Verdict::No(Refusal::NumberLive);
         }
-        Verdict::No(Refusal::Full)
+        if Job::MOST <= table.count {
+            return Verdict::No(Refusal::Full);
+        }
+        Verdict::Yes
+    }
+
+    // Lines 13 and 1 to 5.
+    fn ask_stops(self, number: u32, work: Length, lead: Length) -> Verdict
+        requires { ⌜ lead .0 < 2 ^ 32 ⌝ }
+        ensures { λ r. ⌜ r ≡ firstOf (askLines self number work lead) ⌝ }
+    {
+        if !self.in_order() {
+            return Verdict::No(Refusal::NotInOrder);
+        }
+        let own = Desk::request_stops(self.ledger.clock, number, work, lead);
+        if !own.is_yes() {
+            return own;
+        }
+        Desk::place_stops(self.ledger.table, number)
+    }
+
+    // What is asked for, unless one of lines 13 and 1 to 5 stops it.
+    pub fn request(self, number: u32, work: u32, lead: u32) -> Request
+        ensures { λ r. ⌜ r ≡ requestOf self number work lead ⌝ }
+    {
+        let owed = Length::of(work);
+        let ahead = Length::of(lead);
+        let verdict = self.ask_stops(number, owed, ahead);
+        if !verdict.is_yes() {
+            return Request {
+                verdict,
+                job: Job::NONE,
+            };
+        }
+        Request {
+            verdict,
+            job: Job::of(number, owed, self.ledger.clock.plus(ahead)),
+        }
     }
 
     // Line 6: the request is taken exactly if it fits.
@@ -293,12 +284,11 @@ impl Desk {
         requires { ⌜ Admissible self job ⌝ }
         ensures { λ r. ⌜ Judged self job r ⌝ }
     {
-        let table = self.table.taken(job);
-        if room::fits(self.clock, self.feeds, table) {
-            let mut desk = self;
-            desk.table = table;
+        let ledger = self.ledger;
+        let next = ledger.moved(ledger.clock, ledger.feeds, ledger.table.taken(job));
+        if room::fits(next) {
             return Answer {
-                desk,
+                desk: self.with(next),
                 verdict: Verdict::Yes,
             };
         }
@@ -308,65 +298,60 @@ impl Desk {
         }
     }
 
-    // What is asked for, unless one of lines 13 and 1 to 5 stops it.
-    pub fn request(self, number: u32, work: u32, lead: u32) -> Request
-        ensures { λ r. ⌜ r ≡ requestOf self number work lead ⌝ }
-    {
-        if !self.in_order() {
-            return Request::No(Refusal::NotInOrder);
-        }
-        let owed = Length::of(work);
-        let ahead = Length::of(lead);
-        match self.ask_stops(number, owed, ahead) {
-            Verdict::No(refusal) => Request::No(refusal),
-            Verdict::Yes => Request::Job(Job::of(number, owed, self.clock.plus(ahead))),
-        }
-    }
-
     // Asking for a job.
     pub fn ask(self, number: u32, work: u32, lead: u32) -> Answer
         ensures { λ r. ⌜ Asked self number work lead r ⌝ }
     {
-        match self.request(number, work, lead) {
-            Request::No(refusal) => Answer {
+        let request = self.request(number, work, lead);
+        let verdict = request.verdict;
+        let job = request.job;
+        if !verdict.is_yes() {
+            return Answer {
                 desk: self,
-                verdict: Verdict::No(refusal),
-            },
-            Request::Job(job) => self.admit(job),
+                verdict,
+            };
         }
+        self.admit(job)
     }
 
-    // The live jobs into the front of a lent buffer: three numbers a job, earliest deadline first.
+    // Lines 13 and 11 of a list.
+    fn list_stops(self, size: usize) -> Verdict
+        ensures { λ r. ⌜ r ≡ firstOf (listLines self size) ⌝ }
+    {
+        if !self.in_order() {
+            return Verdict::No(Refusal::NotInOrder);
+        }
+        if size < Job::NUMBERS * self.ledger.table.count {
+            return Verdict::No(Refusal::ShortBuffer);
+        }
+        Verdict::Yes
+    }
+
+    // The live jobs into the front of a lent buffer, earliest deadline first.
     pub fn list(self, buffer: &mut [u64]) -> Counted
         ensures { λ r. ⌜ (r ≡ countedOf self (length (now (buffer .entry)))) × (now (buffer .exit) ≡ listedOf self (now (buffer .entry))) ⌝ }
     {
-        if !self.in_order() {
-            return Counted::No(Refusal::NotInOrder);
+        let verdict = self.list_stops(buffer.len());
+        if !verdict.is_yes() {
+            return Counted { verdict, count: 0 };
         }
-        if buffer.len() < 3 * self.table.count {
-            return Counted::No(Refusal::ShortBuffer);
-        }
-        Counted::Jobs(listing::list(self.table, buffer))
+        let count = listing::list(self.ledger.table, buffer);
+        Counted { verdict, count }
     }
 
     // Whom the next step would name; nobody at the clock's last instant and for a state not in order.
-    fn runner(self) -> Runner
+    fn runner(self) -> Who
         ensures { λ r. ⌜ r ≡ runnerOf self ⌝ }
     {
         if !self.in_order() {
-            return Runner::Idle;
+            return Who::Idle;
         }
         let last = Instant::last();
-        if !last.is_after(self.clock) {
-            return Runner::Idle;
+        if !last.is_after(self.ledger.clock) {
+            return Who::Idle;
         }
-        let piece = serving::foremost(self.clock, self.feeds, self.table);
-        let who = piece.who;
-        match who {
-            Who::Job(number) => Runner::Job(number),
-            Who::Feed(position) => Runner::Feed(position),
-            Who::Idle => Runner::Idle,
-        }
+        let piece = serving::foremost(self.ledger);
+        piece.who
     }
 
     // The label of the one that runs, where it stands in the list that holds it.

@@ -4,31 +4,31 @@ use mathlib.Core.List.{List}
 use Prim.Native.Nat.{ℕ, _≤_}
 use native.Mathlib.Omega.{arith}
 use lib.ListN.{length, take, drop, take-append-drop, length-append}
+use Rattle.jobs.specs.declared.Table.{Table}
 use Rattle.jobs.specs.Jobs.{mostJobs, live}
 use Rattle.desk.specs.declared.Desk.{Desk}
-use Rattle.refusals.specs.declared.Verdict.{Verdict}
-use Rattle.refusals.specs.declared.Verdict.the-variants.{Yes, No}
-use Rattle.desk.specs.declared.Counted.the-variants.{Jobs}
-use Rattle.refusals.specs.Refusals.{firstOf}
-use Rattle.desk.specs.Calls.{listLines, countIf, countedOf}
+use Rattle.answers.specs.declared.Verdict.{Verdict}
+use Rattle.answers.specs.declared.Verdict.the-variants.{Yes, No}
+use Rattle.answers.specs.Answers.{firstOf, onYes}
+use Rattle.desk.specs.Calls.{listLines, countedOf}
 use Rattle.desk.proofs.Asking.{asked-once}
-use Rattle.counter.proofs.Meshes.{asked-mesh-once}
-use Rattle.counter.proofs.Whys.{explained-once}
+use Rattle.questions.proofs.Meshes.{asked-mesh-once}
+use Rattle.questions.proofs.Whys.{explained-once}
 use Rattle.desk_c.specs.declared.Answer.{Answer}
 use Rattle.desk_c.specs.declared.Reason.{Reason}
 use Rattle.desk_c.specs.Flat.{flatAnswer, flatWhy, AskedFlat, AskedMeshFlat, WhyFlat}
 
-counted-all : (v : Verdict) (m n : ℕ) → countIf v m ≡ Jobs n → m ≡ n
-counted-all Yes m n e = cc
-counted-all (No r) m n e = absurd (let z : _≡_ {A = ℕ} 0 1 = cc in omega arith)
-
 -- no more jobs are listed than there are places
-pub few-counted : (d : Desk) (size n : ℕ) → length (d .table .jobs) ≡ mostJobs → countedOf d size ≡ Jobs n → n ≤ mostJobs
+pub few-counted : (d : Desk) (size : ℕ) → length (d .ledger .table .jobs) ≡ mostJobs → countedOf d size .count ≤ mostJobs
 unfolding countedOf
-few-counted d size n long e =
-    let all : length (live (d .table)) ≡ n = counted-all (firstOf (listLines d size)) (length (live (d .table))) n e in
-    let parts = sym (length-append (take (d .table .count) (d .table .jobs)) (drop (d .table .count) (d .table .jobs))) ∙ ap length (take-append-drop (d .table .count) (d .table .jobs)) in
-    omega (arith, all, parts, long)
+few-counted d size long = go (firstOf (listLines d size))
+  where
+    table : Table
+    table = d .ledger .table
+
+    go : (v : Verdict) → onYes v (length (live table)) 0 ≤ mostJobs
+    go Yes = omega (arith, long, sym (length-append (take (table .count) (table .jobs)) (drop (table .count) (table .jobs))) ∙ ap length (take-append-drop (table .count) (table .jobs)))
+    go (No r) = omega arith
 
 -- TWO OUTCOMES THAT THE CONTRACT OF ASKING ALLOWS ARE THE SAME
 pub asked-flat-once : (d : Desk) (number work lead : ℕ) (r s : Answer) → AskedFlat d number work lead r → AskedFlat d number work lead s → r ≡ s

@@ -2,21 +2,16 @@
 use mathlib.Core.Path.{_≡_}
 use mathlib.Core.List.{List}
 use Prim.Native.Nat.{ℕ}
-use lib.IntN.{pos}
 use Rattle.listing.specs.declared.Part.{Part}
 use Rattle.desk.specs.declared.Desk.{Desk}
 use Rattle.desk.specs.declared.Answer as answer
 use Rattle.desk.specs.declared.Stepped as stepped
-use Rattle.desk.specs.declared.Ran.{Ran}
-use Rattle.desk.specs.declared.Ran.the-variants as ran
-use Rattle.counter.specs.declared.Because.{Because}
-use Rattle.counter.specs.declared.Because.the-variants as because
 use Rattle.desk.specs.declared.Counted.{Counted}
-use Rattle.desk.specs.declared.Counted.the-variants as counted
-use Rattle.refusals.specs.Refusals.{numberOf, answerOf}
+use Rattle.questions.specs.declared.Because.{Because}
+use Rattle.answers.specs.Answers.{answerOf, kindOf, nameOf}
 use Rattle.desk.specs.Asking.{Asked}
-use Rattle.counter.specs.Meshes.{AskedMesh}
-use Rattle.counter.specs.Whys.{Explained}
+use Rattle.questions.specs.Meshes.{AskedMesh}
+use Rattle.questions.specs.Whys.{Explained}
 use Rattle.desk_c.specs.declared.Answer.{Answer}
 use Rattle.desk_c.specs.declared.Stepped.{Stepped}
 use Rattle.desk_c.specs.declared.Reason.{Reason}
@@ -27,20 +22,20 @@ use Rattle.desk_c.specs.declared.Label.{Label}
 abbrev pub flatAnswer : answer.Answer → Answer
 flatAnswer a = record { desk = a .desk; refusal = answerOf (a .verdict) }
 
-abbrev pub steppedBy : Desk → Ran → Stepped
-steppedBy d (ran.Job n o) = record { desk = d; refusal = 0; kind = 1; number = n; owes = o .0 }
-steppedBy d (ran.Feed p o) = record { desk = d; refusal = 0; kind = 2; number = p; owes = o .0 }
-steppedBy d ran.Idle = record { desk = d; refusal = 0; kind = 0; number = 0; owes = 0 }
-steppedBy d (ran.No r) = record { desk = d; refusal = numberOf r; kind = 0; number = 0; owes = 0 }
-
 -- whom a step named: kind 1 a job by its number, kind 2 a feed by its position, kind 0 idle; all 0 where it is refused
 abbrev pub flatStep : stepped.Stepped → Stepped
-flatStep s = steppedBy (s .desk) (s .ran)
+flatStep s =
+    record {
+      desk = s .desk;
+      refusal = answerOf (s .verdict);
+      kind = kindOf (s .who);
+      number = nameOf (s .who);
+      owes = s .owes .0;
+    }
 
 -- how many jobs were listed, none where the call is refused
 abbrev pub flatCount : Counted → Listed
-flatCount (counted.Jobs n) = record { refusal = 0; count = n }
-flatCount (counted.No r) = record { refusal = numberOf r; count = 0 }
+flatCount c = record { refusal = answerOf (c .verdict); count = c .count }
 
 -- the place of a label
 abbrev pub flatPart : Part → Label
@@ -61,10 +56,15 @@ pub record AskedMeshFlat (d : Desk) (s : List ℕ) (size number lead : ℕ) (r :
 -- what is told of a request: the refusal alone, 6 with the instant, who owes how much and the margin, or 0 with the instant
 -- and the margin
 abbrev pub flatWhy : Because → Reason
-flatWhy (because.No x) = record { refusal = numberOf x; at = 0; jobs = 0; feeds = 0; job = 0; margin = pos 0 }
-flatWhy (because.Short r) =
-    record { refusal = 6; at = r .at .0; jobs = r .jobs .0; feeds = r .feeds .0; job = r .job .0; margin = r .margin }
-flatWhy (because.Room at margin) = record { refusal = 0; at = at .0; jobs = 0; feeds = 0; job = 0; margin = margin }
+flatWhy w =
+    record {
+      refusal = answerOf (w .verdict);
+      at = w .reason .at .0;
+      jobs = w .reason .jobs .0;
+      feeds = w .reason .feeds .0;
+      job = w .reason .job .0;
+      margin = w .reason .margin;
+    }
 
 -- the flat form of what may be told
 pub record WhyFlat (d : Desk) (number work lead : ℕ) (r : Reason) : Type 0 where

@@ -1,14 +1,10 @@
 // Every call of the desk for C and Rust: states and answers by value, each refusal as its number.
 // It must not know how any call is answered.
-use counter::Because;
-use desk::Counted;
 use desk::Desk;
-use desk::Ran;
-use refusals::Refusal;
+use questions::Because;
 ghost use mathlib.Core.Path.{_≡_};
 ghost use lib.ListN.{length};
 ghost use Rattle.listing.specs.Labels.{labelOf};
-ghost use Rattle.refusals.specs.Refusals.{numberOf, answerOf};
 ghost use Rattle.desk.specs.Opening.{openedOf};
 ghost use Rattle.desk.specs.Calls.{stepOf, endOf, restOf, countedOf, listedOf, runnerOf};
 ghost use Rattle.desk_c.specs.Flat.{flatAnswer, flatStep, flatCount, flatPart, flatWhy, AskedFlat, AskedMeshFlat, WhyFlat};
@@ -74,67 +70,29 @@ fn flat_step(stepped: desk::Stepped) -> Stepped
     ensures { λ r. ⌜ r ≡ flatStep stepped ⌝ }
 {
     let desk = stepped.desk;
-    let ran = stepped.ran;
-    match ran {
-        Ran::Job(number, owes) => Stepped {
-            desk,
-            refusal: 0,
-            kind: 1,
-            number,
-            owes: owes.0,
-        },
-        Ran::Feed(number, owes) => Stepped {
-            desk,
-            refusal: 0,
-            kind: 2,
-            number,
-            owes: owes.0,
-        },
-        Ran::Idle => Stepped {
-            desk,
-            refusal: 0,
-            kind: 0,
-            number: 0,
-            owes: 0,
-        },
-        Ran::No(refusal) => Stepped {
-            desk,
-            refusal: refusal.number(),
-            kind: 0,
-            number: 0,
-            owes: 0,
-        },
+    let verdict = stepped.verdict;
+    let who = stepped.who;
+    Stepped {
+        desk,
+        refusal: verdict.answer(),
+        kind: who.kind(),
+        number: who.name(),
+        owes: stepped.owes.0,
     }
 }
 
 fn flat_why(why: Because) -> Reason
     ensures { λ r. ⌜ r ≡ flatWhy why ⌝ }
 {
-    match why {
-        Because::No(refusal) => Reason {
-            refusal: refusal.number(),
-            at: 0,
-            jobs: 0,
-            feeds: 0,
-            job: 0,
-            margin: 0,
-        },
-        Because::Short(reason) => Reason {
-            refusal: Refusal::DoesNotFit.number(),
-            at: reason.at.0,
-            jobs: reason.jobs.0,
-            feeds: reason.feeds.0,
-            job: reason.job.0,
-            margin: reason.margin,
-        },
-        Because::Room(at, margin) => Reason {
-            refusal: 0,
-            at: at.0,
-            jobs: 0,
-            feeds: 0,
-            job: 0,
-            margin,
-        },
+    let verdict = why.verdict;
+    let reason = why.reason;
+    Reason {
+        refusal: verdict.answer(),
+        at: reason.at.0,
+        jobs: reason.jobs.0,
+        feeds: reason.feeds.0,
+        job: reason.job.0,
+        margin: reason.margin,
     }
 }
 
@@ -165,7 +123,7 @@ pub extern "C" fn desk_ask_mesh(
 ) -> Answer
     ensures { λ r. ⌜ AskedMeshFlat desk (now (head .entry)) size number lead r ⌝ }
 {
-    flat_answer(counter::ask_mesh(desk, head, size, number, lead))
+    flat_answer(questions::ask_mesh(desk, head, size, number, lead))
 }
 
 // Telling the customer why: what an ask would answer, and what decides it.
@@ -173,7 +131,7 @@ pub extern "C" fn desk_ask_mesh(
 pub extern "C" fn desk_why(desk: Desk, number: u32, work: u32, lead: u32) -> Reason
     ensures { λ r. ⌜ WhyFlat desk number work lead r ⌝ }
 {
-    flat_why(counter::why(desk, number, work, lead))
+    flat_why(questions::why(desk, number, work, lead))
 }
 
 // One step of one tick.
@@ -205,15 +163,11 @@ pub extern "C" fn desk_rest(desk: Desk, position: u32) -> Answer
 pub extern "C" fn desk_list(desk: Desk, buffer: &mut [u64]) -> Listed
     ensures { λ r. ⌜ (r ≡ flatCount (countedOf desk (length (now (buffer .entry))))) × (now (buffer .exit) ≡ listedOf desk (now (buffer .entry))) ⌝ }
 {
-    match desk.list(buffer) {
-        Counted::Jobs(count) => Listed {
-            refusal: 0,
-            count: count as u32,
-        },
-        Counted::No(refusal) => Listed {
-            refusal: refusal.number(),
-            count: 0,
-        },
+    let counted = desk.list(buffer);
+    let verdict = counted.verdict;
+    Listed {
+        refusal: verdict.answer(),
+        count: counted.count as u32,
     }
 }
 

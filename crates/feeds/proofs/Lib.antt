@@ -1,7 +1,10 @@
 -- The laws that belong to no one function.
-pub mod Divides
 pub mod Round
 pub mod Limits
 pub mod Lines
-pub mod Kept
+pub mod Lent
+pub mod Pieces
+pub mod Passing
+pub mod Same
+pub mod Positions
 pub mod Examples

@@ -8,11 +8,12 @@ use native.Mathlib.Decide.{decLt, ℕ-discrete}
 use native.Mathlib.Nat.{one-dvd, dvd-trans, dvd-refl, dvd-mod-iff, mod-lt, le-of-dvd, mod-eq-zero-of-dvd}
 use native.Mathlib.Nat.{dvd-of-mod-eq-zero}
 use borrow.Author.Tests.{eq-eqb, eqb-true}
-use Rattle.ticks.specs.Ticks.{mostFeed}
+use Rattle.ticks.specs.Ticks.{mostRound}
 use Rattle.lists.specs.Lists.{every, Each}
 use Rattle.lists.proofs.Places.{each-of-every, every-of-each}
-use Rattle.feeds.specs.Round.{GreatestDivisor, LeastMultiple, IsRound, goesInto, firstFrom, roundOf}
-use Rattle.feeds.proofs.Divides.{divisor-none, divisor-rest, multiple-least}
+use Rattle.plans.specs.Euclid.{GreatestDivisor, LeastMultiple}
+use Rattle.plans.proofs.Divides.{divisor-none, divisor-rest, multiple-least}
+use Rattle.feeds.specs.Round.{IsRound, goesInto, firstFrom, roundOf}
 
 module _ (p : ℕ → Bool) where
   first-from : (k n : ℕ) → n ≤ firstFrom p k n
@@ -104,23 +105,23 @@ common-rest [] m R a b = tt
 common-rest (p ∷ ps) m R a b = (dvd-mod-iff p {m = m} {n = R} (a .0) .1 (b .0), common-rest ps m R (a .1) (b .1))
 
 -- a round that is short enough is found
-pub round-is : (ps : List ℕ) (R : ℕ) → IsRound R ps → R ≤ mostFeed → roundOf ps ≡ R
+pub round-is : (ps : List ℕ) (R : ℕ) → IsRound R ps → R ≤ mostRound → roundOf ps ≡ R
 unfolding roundOf
 round-is ps R r h =
-    first-is (λ n. every (goesInto n) ps) mostFeed 1 R (r .some) (omega arith) (common-test ps R (r .common))
+    first-is (λ n. every (goesInto n) ps) mostRound 1 R (r .some) (omega arith) (common-test ps R (r .common))
     (λ m l k. not-common ps m (λ c. omega (arith, le-of-dvd l (r .least m c))))
 
 -- where every common multiple is too long
-pub round-long : (ps : List ℕ) → ((m : ℕ) → 1 ≤ m → Common ps m → mostFeed < m) → roundOf ps ≡ mostFeed + 1
+pub round-long : (ps : List ℕ) → ((m : ℕ) → 1 ≤ m → Common ps m → mostRound < m) → roundOf ps ≡ mostRound + 1
 unfolding roundOf
 round-long ps f =
-    first-none (λ n. every (goesInto n) ps) mostFeed 1 (λ m l t. f m l (test-common ps m t))
+    first-none (λ n. every (goesInto n) ps) mostRound 1 (λ m l t. f m l (test-common ps m t))
 
 -- what is found is the round
-pub round-found : (ps : List ℕ) → roundOf ps ≤ mostFeed → IsRound (roundOf ps) ps
+pub round-found : (ps : List ℕ) → roundOf ps ≤ mostRound → IsRound (roundOf ps) ps
 unfolding roundOf
 round-found ps h = record {
-  some = first-from test mostFeed 1;
+  some = first-from test mostRound 1;
   common = common;
   least = λ m c. go m c (ℕ-discrete (m % R) 0);
 }
@@ -129,16 +130,16 @@ round-found ps h = record {
     test n = every (goesInto n) ps
 
     R : ℕ
-    R = firstFrom test mostFeed 1
+    R = firstFrom test mostRound 1
 
     common : Common ps R
-    common = test-common ps R (first-passes test mostFeed 1 (omega arith))
+    common = test-common ps R (first-passes test mostRound 1 (omega arith))
 
     go : (m : ℕ) → Common ps m → Dec (m % R ≡ 0) → R ∣ m
     go m c (yes e) = dvd-of-mod-eq-zero R e
     go m c (no e) =
         absurd (clash test (m % R) (common-test ps (m % R) (common-rest ps m R common c))
-        (none-before test mostFeed 1 (m % R) (omega arith) (mod-lt m (first-from test mostFeed 1))))
+        (none-before test mostRound 1 (m % R) (omega arith) (mod-lt m (first-from test mostRound 1))))
 
 -- the round of the feeds so far, and the periods that are left: together they go into whatever all the periods go into
 pub record SoFar (round : ℕ) (left ps : List ℕ) : Type 0 where
@@ -165,7 +166,7 @@ so-far-done R ps s = record {
 }
 
 -- a round that is too long so far is too long
-pub so-far-long : (round : ℕ) (left ps : List ℕ) → SoFar round left ps → mostFeed < round → roundOf ps ≡ mostFeed + 1
+pub so-far-long : (round : ℕ) (left ps : List ℕ) → SoFar round left ps → mostRound < round → roundOf ps ≡ mostRound + 1
 so-far-long round left ps s h = round-long ps (λ m l c. omega (arith, le-of-dvd l (s .parts m c .0)))
 
 -- with no feeds the round is 1
@@ -192,12 +193,12 @@ pub round-exists : (ps : List ℕ) → Each (λ p. 1 ≤ p) ps → (R : ℕ) × 
 round-exists ps e = round-goes-on 1 ps ps (so-far-none ps) e
 
 -- what is looked for is the round itself, cut off one tick above the longest
-pub round-cut-off : (ps : List ℕ) (R : ℕ) → IsRound R ps → roundOf ps ≡ min R (mostFeed + 1)
-round-cut-off ps R r = go (decLt mostFeed R)
+pub round-cut-off : (ps : List ℕ) (R : ℕ) → IsRound R ps → roundOf ps ≡ min R (mostRound + 1)
+round-cut-off ps R r = go (decLt mostRound R)
   where
-    go : Dec (mostFeed < R) → roundOf ps ≡ min R (mostFeed + 1)
+    go : Dec (mostRound < R) → roundOf ps ≡ min R (mostRound + 1)
     go (yes h) =
-        let cut : roundOf ps ≡ mostFeed + 1 = round-long ps (λ m l c. omega (arith, le-of-dvd l (r .least m c))) in
+        let cut : roundOf ps ≡ mostRound + 1 = round-long ps (λ m l c. omega (arith, le-of-dvd l (r .least m c))) in
         omega arith
     go (no h) =
         let it : roundOf ps ≡ R = round-is ps R r (omega arith) in

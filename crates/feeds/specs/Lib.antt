@@ -1,3 +1,4 @@
 pub mod Feeds
 pub mod Round
 pub mod Lines
+pub mod Pieces

@@ -1,35 +1,66 @@
--- What a lent list of numbers comes to: the opening's lines in their order.
-use mathlib.Core.Bool.{not, cond}
+-- The lines that feeds are put to, each once: by the opening, and by the test of any state.
+use mathlib.Core.Bool.{Bool, not}
 use mathlib.Core.List.{List, [], _∷_}
-use Prim.Native.Nat.{ℕ, _+_, _*_, _/_, _%_}
+use Prim.Native.Nat.{ℕ, _+_, _*_, _/_, _%_, _≤_}
 use lib.Dec.{leb, ltb, eqb}
-use lib.ListN.{length, getD}
-use Rattle.ticks.specs.Ticks.{mostFeed, ticks}
-use Rattle.lists.specs.Lists.{every}
+use lib.ListN.{length, getD, drop}
+use Rattle.ticks.specs.declared.Instant.{Instant}
+use Rattle.ticks.specs.Ticks.{mostRound, ticks}
+use Rattle.lists.specs.Lists.{every, Each, allOf}
+use Rattle.answers.specs.declared.Refusal.the-variants.{Outside, TooManyFeeds, RoundTooLong, TooMuchLoad, NotWholeFeeds}
+use Rattle.answers.specs.Answers.{Line, line, passes}
 use Rattle.feeds.specs.declared.Feed.{Feed}
 use Rattle.feeds.specs.declared.Feeds.{Feeds}
-use Rattle.feeds.specs.declared.Reading.{Reading}
-use Rattle.feeds.specs.declared.Listed.{Listed}
-use Rattle.feeds.specs.declared.Listed.the-variants.{Fine, NotThree, TooMany, Outside, RoundTooLong, TooMuch}
-use Rattle.feeds.specs.Feeds.{mostFeeds, feedIn, live, feedsOf}
-use Rattle.feeds.specs.Round.{periods, roundOf, load}
+use Rattle.feeds.specs.Feeds.{mostFeeds, numbersAFeed, feedOf, feedIn, FeedIn, unusedFeed, inUse}
+use Rattle.feeds.specs.Round.{IsRound, periods, roundOf, load}
+use Rattle.feeds.specs.Pieces.{pieceIn, PieceIn}
 
--- the number that the rules give each answer; 0 where there is nothing to refuse
-abbrev pub lineOf : Listed → ℕ
-lineOf Fine = 0
-lineOf NotThree = 12
-lineOf TooMany = 8
-lineOf Outside = 2
-lineOf RoundTooLong = 9
-lineOf TooMuch = 10
+-- of how many numbers were lent: they are no whole feeds (12), or more feeds than there are places (8)
+abbrev pub shapeLines : ℕ → List Line
+shapeLines n =
+    line (not (eqb (n % numbersAFeed) 0)) NotWholeFeeds ∷ line (ltb mostFeeds (n / numbersAFeed)) TooManyFeeds ∷ []
+
+-- of the feeds: a length or an offset is outside its limits (2), the round is too long (9), in a round they want more than
+-- the round (10)
+abbrev pub feedLines : List Feed → List Line
+feedLines fs =
+    line (not (every feedIn fs)) Outside
+    ∷ line (not (leb (roundOf (periods fs)) mostRound)) RoundTooLong
+    ∷ line (ltb (roundOf (periods fs)) (load (roundOf (periods fs)) fs)) TooMuchLoad
+    ∷ []
+
+-- the feeds of a state in order: at most 16 (line 8), they pass lines 2, 9 and 10, the unused places are all zero, and the
+-- current pieces are in order
+unfoldable pub feedsPass : Instant → Feeds → Bool
+feedsPass clock s =
+    allOf
+    (leb (s .count) mostFeeds
+    ∷ passes (feedLines (inUse s))
+    ∷ every unusedFeed (drop (s .count) (s .feeds))
+    ∷ every (pieceIn clock) (inUse s)
+    ∷ [])
+
+-- feeds that pass, as facts
+pub record Passing (fs : List Feed) : Type 0 where
+  pub few : length fs ≤ mostFeeds
+  pub within : Each FeedIn fs
+  pub short : roundOf (periods fs) ≤ mostRound
+  pub round : IsRound (roundOf (periods fs)) (periods fs)
+  pub carried : load (roundOf (periods fs)) fs ≤ roundOf (periods fs)
+
+-- the same of a state's feeds at an instant, with their current pieces
+pub record FeedsIn (clock : Instant) (fs : List Feed) : Type 0 where
+  pub passing : Passing fs
+  pub pieces : Each (PieceIn clock) fs
 
 -- three numbers: the feed whose piece has not come yet
 abbrev pub feed : ℕ → ℕ → ℕ → Feed
-feed period work offset = record { period = ticks period; work = ticks work; offset = ticks offset; owes = ticks 0 }
+feed period work offset = feedOf (record { period = ticks period; work = ticks work; offset = ticks offset }) 0
 
 -- the feed at a place of the list
 abbrev pub feedAt : List ℕ → ℕ → Feed
-feedAt xs i = feed (getD xs (3 * i) 0) (getD xs (3 * i + 1) 0) (getD xs (3 * i + 2) 0)
+feedAt xs i =
+    feed (getD xs (numbersAFeed * i) 0) (getD xs (numbersAFeed * i + 1) 0) (getD xs (numbersAFeed * i + 2) 0)
 
 -- three numbers a feed; one or two that are left over make none
 unfoldable pub feedsIn : List ℕ → List Feed
@@ -37,43 +68,3 @@ feedsIn [] = []
 feedsIn (a ∷ []) = []
 feedsIn (a ∷ b ∷ []) = []
 feedsIn (a ∷ b ∷ c ∷ xs) = feed a b c ∷ feedsIn xs
-
--- the first answer that refuses
-abbrev pub orElse : Listed → Listed → Listed
-orElse Fine b = b
-orElse NotThree b = NotThree
-orElse TooMany b = TooMany
-orElse Outside b = Outside
-orElse RoundTooLong b = RoundTooLong
-orElse TooMuch b = TooMuch
-
--- lines 12 and 8, of how many numbers were lent
-unfoldable pub shapeOf : ℕ → Listed
-shapeOf n = cond (not (eqb (n % 3) 0)) NotThree (cond (ltb mostFeeds (n / 3)) TooMany Fine)
-
--- lines 2, 9 and 10, of the feeds
-unfoldable pub soundOf : List Feed → Listed
-soundOf fs =
-    cond (not (every feedIn fs)) Outside
-    (cond (not (leb (roundOf (periods fs)) mostFeed)) RoundTooLong
-    (cond (ltb (roundOf (periods fs)) (load (roundOf (periods fs)) fs)) TooMuch Fine))
-
--- lines 12, 8, 2, 9 and 10, in this order
-unfoldable pub listedOf : List ℕ → Listed
-listedOf xs = orElse (shapeOf (length xs)) (soundOf (feedsIn xs))
-
--- the feeds where nothing refuses them, else none
-abbrev pub keptOf : Listed → Feeds → Feeds
-keptOf Fine s = s
-keptOf NotThree s = feedsOf []
-keptOf TooMany s = feedsOf []
-keptOf Outside s = feedsOf []
-keptOf RoundTooLong s = feedsOf []
-keptOf TooMuch s = feedsOf []
-
--- the feeds and the answer of lines 2, 9 and 10
-abbrev pub checkedOf : Feeds → Reading
-checkedOf s = record { feeds = keptOf (soundOf (live s)) s; answer = soundOf (live s) }
-
-unfoldable pub readOf : List ℕ → Reading
-readOf xs = record { feeds = keptOf (listedOf xs) (feedsOf (feedsIn xs)); answer = listedOf xs }

@@ -1,29 +1,31 @@
-// The feeds: the printers' layers that come again and again. Their limits, the round after which they all begin anew,
-// what they want in a round, and how a lent list of numbers is read as feeds: lines 12, 8, 2, 9 and 10 of the opening.
-// It must not know jobs, nor how the clock moves.
+// The feeds: the printers' layers that come again and again, each a plan and what its current piece still owes. How a lent
+// list of numbers is read as feeds (lines 12, 8, 2, 9 and 10 of the opening), the round, and the current pieces: what comes
+// at an instant, what is served, what is rested.
+// It must not know jobs, nor who is served.
+use answers::Refusal;
+use answers::Verdict;
+use plans::Plan;
+use plans::euclid;
+use ticks::Instant;
 use ticks::Length;
-
-mod euclid;
-
 ghost use mathlib.Core.Path.{_≡_};
 ghost use mathlib.Core.Bool.{true};
-ghost use mathlib.Core.List.{[]};
-ghost use Prim.Native.Nat.{_+_, _*_, _≤_, _<_};
-ghost use lib.ListN.{length, drop};
-ghost use Rattle.ticks.specs.Ticks.{mostFeed, ticks};
-ghost use Rattle.lists.specs.Lists.{every};
-ghost use Rattle.feeds.specs.Feeds.{mostFeeds, noFeed, feedIn, unusedFeed, live, feedsOf, feedsPass, Shareable};
-ghost use Rattle.feeds.specs.Round.{roundOf, periods, share, load};
-ghost use Rattle.feeds.specs.Lines.{feed, shapeOf, soundOf, readOf, checkedOf, feedsIn, feedAt};
-ghost use Rattle.feeds.specs.declared.Listed.the-variants.{Fine};
+ghost use mathlib.Core.List.{[], map};
+ghost use Prim.Native.Nat.{_+_, _*_, _-_, _≤_, _<_, _^_};
+ghost use lib.ListN.{length, drop, getD, set};
+ghost use Rattle.ticks.specs.Ticks.{mostRound, ticks};
+ghost use Rattle.lists.specs.Lists.{every, Each};
+ghost use Rattle.answers.specs.declared.Verdict.the-variants.{Yes};
+ghost use Rattle.answers.specs.Answers.{firstOf};
+ghost use Rattle.feeds.specs.Feeds.{mostFeeds, numbersAFeed, noFeed, feedIn, FeedIn, unusedFeed, inUse, feedsOf, owing, Tidy};
+ghost use Rattle.feeds.specs.Round.{roundOf, periods, load};
+ghost use Rattle.feeds.specs.Lines.{shapeLines, feedLines, feedsPass, feedsIn, feedAt};
+ghost use Rattle.feeds.specs.Pieces.{pieceIn, arrived, served, rested, owesAt};
 
-// A printer's feed. A piece of `work` ticks comes every `period` ticks, at the instants that leave the remainder
-// `offset`; `owes` is what the piece that came last still wants.
+// A printer's feed: its plan, and what the piece that came last still wants.
 #[repr(C)]
 pub struct Feed {
-    pub period: Length,
-    pub work: Length,
-    pub offset: Length,
+    pub plan: Plan,
     pub owes: Length,
 }
 
@@ -34,30 +36,14 @@ pub struct Feeds {
     pub feeds: [Feed; Feed::MOST],
 }
 
-// What a lent list of numbers comes to.
-pub enum Listed {
-    Fine,
-    NotThree,
-    TooMany,
-    Outside,
-    RoundTooLong,
-    TooMuch,
-}
-
-// The feeds that were read, none where the list is refused, and the answer.
-pub struct Reading {
-    pub feeds: Feeds,
-    pub answer: Listed,
-}
-
 impl Feed {
     // As many feeds as there are places.
     pub const MOST: usize = 16;
+    // As many numbers as a feed takes in a lent list: period, work and offset.
+    pub const NUMBERS: usize = 3;
     // A place that no feed has.
     pub const NONE: Feed = Feed {
-        period: Length::NONE,
-        work: Length::NONE,
-        offset: Length::NONE,
+        plan: Plan::NONE,
         owes: Length::NONE,
     };
 
@@ -67,58 +53,54 @@ impl Feed {
         Feed::MOST
     }
 
+    pub fn numbers() -> usize
+        ensures { λ r. ⌜ r ≡ numbersAFeed ⌝ }
+    {
+        Feed::NUMBERS
+    }
+
     pub fn none() -> Feed
         ensures { λ r. ⌜ r ≡ noFeed ⌝ }
     {
         Feed::NONE
     }
 
-    // A feed whose first piece has not come yet.
-    pub fn of(period: Length, work: Length, offset: Length) -> Feed
-        ensures { λ r. ⌜ r ≡ feed (period .0) (work .0) (offset .0) ⌝ }
-    {
-        Feed {
-            period,
-            work,
-            offset,
-            owes: Length::NONE,
-        }
-    }
-
-    // Line 2 for one feed.
-    pub fn within(self) -> bool
-        ensures { λ r. ⌜ r ≡ feedIn self ⌝ }
-    {
-        if !self.period.is_feed() {
-            return false;
-        }
-        if !self.work.is_feed() {
-            return false;
-        }
-        self.offset.0 < self.period.0
-    }
-
     pub fn is_none(self) -> bool
         ensures { λ r. ⌜ r ≡ unusedFeed self ⌝ }
     {
-        if !self.period.is_none() {
-            return false;
-        }
-        if !self.work.is_none() {
-            return false;
-        }
-        if !self.offset.is_none() {
+        if !self.plan.is_none() {
             return false;
         }
         self.owes.is_none()
     }
 
-    // What the feed wants in a round.
-    fn share(self, round: Length) -> u64
-        requires { ⌜ Shareable self (round .0) ⌝ }
-        ensures { λ r. ⌜ (r ≡ share (round .0) self) × (r ≤ mostFeed * mostFeed) ⌝ }
+    // What a state in order says of the current piece: it owes at most its work, and nothing while the clock is below the
+    // offset.
+    fn piece_in(self, clock: Instant) -> bool
+        ensures { λ r. ⌜ r ≡ pieceIn clock self ⌝ }
     {
-        self.work.0 * (round.0 / self.period.0)
+        if self.owes.is_longer(self.plan.work) {
+            return false;
+        }
+        let first = Instant::FIRST.plus(self.plan.offset);
+        if first.is_after(clock) {
+            return self.owes.is_none();
+        }
+        true
+    }
+
+    // The feed at this instant: where a piece comes then, it is ready, whole.
+    fn arrived(self, at: Instant) -> Feed
+        requires { ⌜ FeedIn self × (at .0 < 2 ^ 63) ⌝ }
+        ensures { λ r. ⌜ r ≡ arrived at self ⌝ }
+    {
+        if self.plan.since(at).is_none() {
+            let work = self.plan.work;
+            let mut feed = self;
+            feed.owes = work;
+            return feed;
+        }
+        self
     }
 }
 
@@ -135,11 +117,12 @@ impl Feeds {
     // Line 2 for each feed.
     fn all_within(self) -> bool
         requires { ⌜ self .count ≤ mostFeeds ⌝ }
-        ensures { λ r. ⌜ r ≡ every feedIn (live self) ⌝ }
+        ensures { λ r. ⌜ r ≡ every feedIn (inUse self) ⌝ }
     {
         let count = self.count;
         for i in 0..count {
-            if !self.feeds[i].within() {
+            let feed = self.feeds[i];
+            if !feed.plan.within() {
                 return false;
             }
         }
@@ -162,15 +145,15 @@ impl Feeds {
 
     // The round, or one tick more than the longest where it is longer.
     pub fn round(self) -> Length
-        requires { ⌜ (self .count ≤ mostFeeds) × (every feedIn (live self) ≡ true) ⌝ }
-        ensures { λ r. ⌜ r ≡ ticks (roundOf (periods (live self))) ⌝ }
+        requires { ⌜ (self .count ≤ mostFeeds) × (every feedIn (inUse self) ≡ true) ⌝ }
+        ensures { λ r. ⌜ r ≡ ticks (roundOf (periods (inUse self))) ⌝ }
     {
         let count = self.count;
         let mut round = 1;
         for i in 0..count {
-            round = euclid::multiple(round, self.feeds[i].period.0);
-            if Length::PERIOD.0 < round {
-                return Length(Length::PERIOD.0 + 1);
+            round = euclid::multiple(round, self.feeds[i].plan.period.0);
+            if Length::ROUND.0 < round {
+                return Length(Length::ROUND.0 + 1);
             }
         }
         Length(round)
@@ -178,67 +161,167 @@ impl Feeds {
 
     // What the feeds want in a round.
     pub fn load(self, round: Length) -> Length
-        requires { ⌜ (self .count ≤ mostFeeds) × (every feedIn (live self) ≡ true) × (round .0 ≤ mostFeed) ⌝ }
-        ensures { λ r. ⌜ r ≡ ticks (load (round .0) (live self)) ⌝ }
+        requires { ⌜ (self .count ≤ mostFeeds) × (every feedIn (inUse self) ≡ true) × (round .0 ≤ mostRound) ⌝ }
+        ensures { λ r. ⌜ r ≡ ticks (load (round .0) (inUse self)) ⌝ }
     {
         let count = self.count;
         let mut sum = 0;
         for i in 0..count {
-            sum += self.feeds[i].share(round);
+            let feed = self.feeds[i];
+            sum += feed.plan.share(round);
         }
         Length(sum)
     }
 
     // Lines 2, 9 and 10.
-    fn sound(self) -> Listed
+    pub fn sound(self) -> Verdict
         requires { ⌜ self .count ≤ mostFeeds ⌝ }
-        ensures { λ r. ⌜ r ≡ soundOf (live self) ⌝ }
+        ensures { λ r. ⌜ r ≡ firstOf (feedLines (inUse self)) ⌝ }
     {
         if !self.all_within() {
-            return Listed::Outside;
+            return Verdict::No(Refusal::Outside);
         }
         let round = self.round();
-        if !round.is_round() {
-            return Listed::RoundTooLong;
+        if !round.suits_round() {
+            return Verdict::No(Refusal::RoundTooLong);
         }
-        if round.0 < self.load(round).0 {
-            return Listed::TooMuch;
+        if self.load(round).is_longer(round) {
+            return Verdict::No(Refusal::TooMuchLoad);
         }
-        Listed::Fine
+        Verdict::Yes
     }
 
-    // Whether any feeds that are handed in would pass the opening.
-    pub fn feeds_pass(self) -> bool
-        ensures { λ r. ⌜ r ≡ feedsPass self ⌝ }
+    // What a state in order says of the current pieces.
+    fn pieces_in(self, clock: Instant) -> bool
+        requires { ⌜ self .count ≤ mostFeeds ⌝ }
+        ensures { λ r. ⌜ r ≡ every (pieceIn clock) (inUse self) ⌝ }
+    {
+        let count = self.count;
+        for i in 0..count {
+            if !self.feeds[i].piece_in(clock) {
+                return false;
+            }
+        }
+        true
+    }
+
+    // Whether any feeds that are handed in are in order at this instant: they would pass the opening, the current pieces are
+    // in order, and the unused places are all zero.
+    pub fn in_order(self, clock: Instant) -> bool
+        ensures { λ r. ⌜ r ≡ feedsPass clock self ⌝ }
     {
         if Feed::MOST < self.count {
             return false;
         }
-        match self.sound() {
-            Listed::Fine => self.rest_unused(),
-            _ => false,
+        if !self.sound().is_yes() {
+            return false;
         }
+        if !self.rest_unused() {
+            return false;
+        }
+        self.pieces_in(clock)
+    }
+
+    // The pieces that come at this instant are ready.
+    pub fn arrive(self, at: Instant) -> Feeds
+        requires { ⌜ Tidy self × Each FeedIn (inUse self) × (at .0 < 2 ^ 63) ⌝ }
+        ensures { λ r. ⌜ r ≡ feedsOf (map (arrived at) (inUse self)) ⌝ }
+    {
+        let count = self.count;
+        let mut next = self;
+        for i in 0..count {
+            let feed = self.feeds[i].arrived(at);
+            next.feeds[i] = feed;
+        }
+        next
+    }
+
+    // What the current piece of the feed at this position still owes; nothing where there is no such feed.
+    pub fn owes_at(self, position: u32) -> Length
+        requires { ⌜ self .count ≤ mostFeeds ⌝ }
+        ensures { λ r. ⌜ r ≡ ticks (owesAt position 1 (inUse self)) ⌝ }
+    {
+        let count = self.count;
+        let at = position as usize;
+        if at < 1 {
+            return Length::NONE;
+        }
+        if count < at {
+            return Length::NONE;
+        }
+        let feed = self.feeds[at - 1];
+        feed.owes
+    }
+
+    // The current piece of the feed at this position owes so much from now on.
+    fn owing(self, position: u32, owes: Length) -> Feeds
+        requires { ⌜ Tidy self × (1 ≤ position) × (position ≤ self .count) ⌝ }
+        ensures { λ r. ⌜ r ≡ feedsOf (set (inUse self) (position - 1) (owing owes (getD (inUse self) (position - 1) noFeed))) ⌝ }
+    {
+        let at = position as usize;
+        let mut feed = self.feeds[at - 1];
+        feed.owes = owes;
+        let mut next = self;
+        next.feeds[at - 1] = feed;
+        next
+    }
+
+    // The current piece of the feed at this position owes nothing from now on.
+    pub fn rest(self, position: u32) -> Feeds
+        requires { ⌜ Tidy self × (1 ≤ position) × (position ≤ self .count) ⌝ }
+        ensures { λ r. ⌜ r ≡ feedsOf (rested position 1 (inUse self)) ⌝ }
+    {
+        self.owing(position, Length::NONE)
+    }
+
+    // The current piece of the feed at this position has one tick less to get.
+    pub fn serve(self, position: u32) -> Feeds
+        requires { ⌜ Tidy self × (1 ≤ owesAt position 1 (inUse self)) ⌝ }
+        ensures { λ r. ⌜ r ≡ feedsOf (served position 1 (inUse self)) ⌝ }
+    {
+        self.owing(position, self.owes_at(position).one_less())
     }
 }
 
 // The feed at a place of the lent list.
 fn feed_at(list: &[u32], at: usize) -> Feed
-    requires { ⌜ 3 * at + 2 < length (now list) ⌝ }
+    requires { ⌜ numbersAFeed * at + 2 < length (now list) ⌝ }
     ensures { λ r. ⌜ r ≡ feedAt (now (list .entry)) at ⌝ }
 {
-    let from = 3 * at;
+    let from = Feed::NUMBERS * at;
     let period = Length::of(list[from]);
     let work = Length::of(list[from + 1]);
     let offset = Length::of(list[from + 2]);
-    Feed::of(period, work, offset)
+    let plan = Plan {
+        period,
+        work,
+        offset,
+    };
+    Feed {
+        plan,
+        owes: Length::NONE,
+    }
 }
 
-// The feeds of a list that lines 12 and 8 let pass, each in its place.
-fn taken(list: &[u32]) -> Feeds
-    requires { ⌜ shapeOf (length (now list)) ≡ Fine ⌝ }
+// Lines 12 and 8, which come before the opening instant is looked at.
+pub fn shape(list: &[u32]) -> Verdict
+    ensures { λ r. ⌜ r ≡ firstOf (shapeLines (length (now (list .entry)))) ⌝ }
+{
+    if list.len() % Feed::NUMBERS != 0 {
+        return Verdict::No(Refusal::NotWholeFeeds);
+    }
+    if Feed::MOST < list.len() / Feed::NUMBERS {
+        return Verdict::No(Refusal::TooManyFeeds);
+    }
+    Verdict::Yes
+}
+
+// The feeds of a list that lines 12 and 8 let pass, each in its place, no piece come yet.
+pub fn taken(list: &[u32]) -> Feeds
+    requires { ⌜ firstOf (shapeLines (length (now list))) ≡ Yes ⌝ }
     ensures { λ r. ⌜ r ≡ feedsOf (feedsIn (now (list .entry))) ⌝ }
 {
-    let count = list.len() / 3;
+    let count = list.len() / Feed::NUMBERS;
     let mut feeds = Feeds::none();
     for i in 0..count {
         let feed = feed_at(list, i);
@@ -246,47 +329,4 @@ fn taken(list: &[u32]) -> Feeds
     }
     feeds.count = count;
     feeds
-}
-
-// Lines 12 and 8, which come before the opening instant is looked at.
-pub fn shape(list: &[u32]) -> Listed
-    ensures { λ r. ⌜ r ≡ shapeOf (length (now (list .entry))) ⌝ }
-{
-    if list.len() % 3 != 0 {
-        return Listed::NotThree;
-    }
-    if Feed::MOST < list.len() / 3 {
-        return Listed::TooMany;
-    }
-    Listed::Fine
-}
-
-// Lines 12, 8, 2, 9 and 10 in this order, and the feeds where none of them refuses.
-pub fn read(list: &[u32]) -> Reading
-    ensures { λ r. ⌜ r ≡ readOf (now (list .entry)) ⌝ }
-{
-    match shape(list) {
-        Listed::Fine => checked(taken(list)),
-        other => Reading {
-            feeds: Feeds::none(),
-            answer: other,
-        },
-    }
-}
-
-// Feeds that were just read, if they pass lines 2, 9 and 10.
-fn checked(feeds: Feeds) -> Reading
-    requires { ⌜ feeds .count ≤ mostFeeds ⌝ }
-    ensures { λ r. ⌜ r ≡ checkedOf feeds ⌝ }
-{
-    match feeds.sound() {
-        Listed::Fine => Reading {
-            feeds,
-            answer: Listed::Fine,
-        },
-        other => Reading {
-            feeds: Feeds::none(),
-            answer: other,
-        },
-    }
 }

@@ -2,3 +2,4 @@
 pub mod Numbers
 pub mod Limits
 pub mod Places
+pub mod Served

@@ -4,7 +4,7 @@ use mathlib.Core.Bool.{true}
 use native.Mathlib.Omega.{arith}
 use borrow.Author.Tests.{leb-true, le-leb, ltb-true, lt-ltb, eqb-true, eq-eqb}
 use Rattle.ticks.specs.declared.Instant.{Instant}
-use Rattle.ticks.specs.Ticks.{mostJob, less, ticks, instant}
+use Rattle.ticks.specs.Ticks.{mostJob, ticksSince, ticks, instant}
 use Rattle.lists.proofs.Tests.{all-of, all-of-made}
 use Rattle.ticks.proofs.Tests.{from-one, from-one-made}
 use Rattle.lists.proofs.Places.{each-of-every, every-of-each}
@@ -17,7 +17,7 @@ pub job-in : (clock : Instant) (j : Job) → jobIn clock j ≡ true → JobIn cl
 unfolding jobIn
 job-in clock j h =
     let t = all-of _ h in
-    let lead = from-one mostJob (less (j .deadline) clock) (t .1 .1 .1 .0) in
+    let lead = from-one mostJob (ticksSince (j .deadline) clock) (t .1 .1 .1 .0) in
     record {
       number = leb-true _ _ (t .0);
       owed = from-one mostJob (j .owed) (t .1 .0);
@@ -35,7 +35,7 @@ job-in-made clock j h =
         from-one-made mostJob (j .owed) (h .owed .0) (h .owed .1),
         (
           lt-ltb _ _ (h .ahead),
-          (from-one-made mostJob (less (j .deadline) clock) (omega arith) (omega arith), (le-leb _ _ (h .within), tt)),
+          (from-one-made mostJob (ticksSince (j .deadline) clock) (omega arith) (omega arith), (le-leb _ _ (h .within), tt)),
         ),
       ),
     )

@@ -5,72 +5,95 @@ use lib.Dec.{eqb}
 use borrow.Author.Tests.{eqb-true}
 use mathlib.Core.List.{List, [], _∷_, _++_}
 use Prim.Native.Nat.{ℕ, _+_, _-_, _≤_, _<_}
-use native.Mathlib.Numerals.{add-one}
 use native.Mathlib.Omega.{arith}
-use lib.ListN.{length, take, drop, set, length-append}
-use lib.Seq.{length-take-le, paste}
+use lib.ListN.{length, getD, take, drop, set, length-append, length-set}
+use lib.Seq.{length-take-le, getD-take, paste}
 use Rattle.ticks.specs.declared.Instant.{Instant}
 use Rattle.lists.specs.Lists.{Each, filled, bit}
-use Rattle.lists.proofs.Places.{filled-more, filled-of-unused, filled-without, length-without, take-filled}
+use Rattle.lists.proofs.Places.{filled-more, filled-of-unused, filled-without, length-without, take-filled, length-filled, filled-set, unused-of-filled}
 use Rattle.lists.proofs.Lists.{each-append, total-append}
-use Rattle.lists.proofs.Places.{unused-of-filled, each-take, each-drop, total-without}
 use Rattle.jobs.specs.declared.Job.{Job}
 use Rattle.jobs.specs.declared.Table.{Table}
-use Rattle.jobs.specs.Jobs.{noJob, mostJobs, live, tableOf, Kept, times, JobIn, TableIn, JobsIn}
+use Rattle.jobs.specs.Jobs.{noJob, mostJobs, live, tableOf, Tidy, times, JobIn, TableIn, JobsIn}
 
--- a table with zeros in its unused places is kept
-pub kept :
+-- a table whose unused places are all zero is tidy
+pub tidy :
     (t : Table) → length (t .jobs) ≡ mostJobs → t .count ≤ mostJobs →
-    Each (λ j. j ≡ noJob) (drop (t .count) (t .jobs)) → Kept t
-kept t l h e =
+    Each (λ j. j ≡ noJob) (drop (t .count) (t .jobs)) → Tidy t
+tidy t l h e =
     let places : t .jobs ≡ filled mostJobs noJob (live t) = filled-of-unused mostJobs (t .count) noJob (t .jobs) l h e in
     let many : length (live t) ≡ t .count = length-take-le (t .count) (t .jobs) (omega arith) in
-    λ i. record { count = sym many i; jobs = places i }
+    record { few = h; filled = λ i. record { count = sym many i; jobs = places i } }
 
--- one more job, behind the others
-pub one-more :
-    (t : Table) (j : Job) → Kept t → t .count < mostJobs →
-    _≡_ {A = Table} (record { count = t .count + 1; jobs = set (t .jobs) (t .count) j }) (tableOf (live t ++ (j ∷ [])))
-one-more t j k h =
-    let many : t .count ≡ length (live t) = ap (λ s. s .count) k in
-    let count : t .count + 1 ≡ length (live t ++ (j ∷ [])) = ap (λ n. n + 1) many ∙ sym (length-append (live t) (j ∷ [])) in
-    let places : set (t .jobs) (t .count) j ≡ filled mostJobs noJob (live t ++ (j ∷ [])) =
-    (λ i. set (k i .jobs) (many i) j) ∙ filled-more mostJobs noJob j (live t) (omega arith) in
-    λ i. record { count = count i; jobs = places i }
-
--- the jobs behind one have moved up, and the last place is free
-pub one-less :
-    (t : Table) (at m : ℕ) → Kept t → t .count ≤ mostJobs → at < t .count → at + m ≡ t .count - 1 →
-    _≡_ {A = Table} (record { count = t .count - 1; jobs = set (paste (t .jobs) at (drop (at + 1) (t .jobs)) m) (t .count - 1) noJob }) (tableOf (take at (live t) ++ drop (at + 1) (live t)))
-one-less t at m k l h e =
-    let xs = live t in
-    let many : t .count ≡ length xs = ap (λ s. s .count) k in
-    let count : t .count - 1 ≡ length (take at xs ++ drop (at + 1) xs) =
-    ap (λ n. n - 1) many ∙ sym (length-without mostJobs noJob xs at (omega arith) (omega arith)) in
-    let places : set (paste (t .jobs) at (drop (at + 1) (t .jobs)) m) (t .count - 1) noJob ≡ filled mostJobs noJob (take at xs ++ drop (at + 1) xs) =
-    (λ i. set (paste (k i .jobs) at (drop (at + 1) (k i .jobs)) m) (many i - 1) noJob)
-    ∙ filled-without mostJobs noJob xs at (omega arith) (omega arith) m (omega arith) in
-    λ i. record { count = count i; jobs = places i }
+pub tidy-in : (clock : Instant) (t : Table) → length (t .jobs) ≡ mostJobs → TableIn clock t → Tidy t
+tidy-in clock t l h = tidy t l (h .few) (h .unused)
 
 pub live-of : (js : List Job) → live (tableOf js) ≡ js
 live-of js = take-filled mostJobs noJob js
 
-pub kept-of : (js : List Job) → Kept (tableOf js)
-kept-of js = ap tableOf (sym (live-of js))
+pub tidy-of : (js : List Job) → length js ≤ mostJobs → Tidy (tableOf js)
+tidy-of js h = record { few = h; filled = ap tableOf (sym (live-of js)) }
+
+-- as many live jobs as are counted
+pub live-count : (t : Table) → Tidy t → length (live t) ≡ t .count
+live-count t k = ap (λ s. s .count) (sym (k .filled))
+
+pub all-places : (t : Table) → Tidy t → length (t .jobs) ≡ mostJobs
+all-places t k =
+    let many = live-count t k in
+    ap (λ s. length (s .jobs)) (k .filled) ∙ length-filled mostJobs noJob (live t) (omega (arith, k .few))
+
+-- a live job stands at its place of the array
+pub live-at : (t : Table) (i : ℕ) → i < t .count → getD (live t) i noJob ≡ getD (t .jobs) i noJob
+live-at t i h = getD-take (t .count) (t .jobs) i noJob h
+
+-- one more job, behind the others
+pub one-more :
+    (t : Table) (j : Job) → Tidy t → t .count < mostJobs →
+    _≡_ {A = Table} (record { count = t .count + 1; jobs = set (t .jobs) (t .count) j }) (tableOf (live t ++ (j ∷ [])))
+one-more t j k h =
+    let many : t .count ≡ length (live t) = sym (live-count t k) in
+    let count : t .count + 1 ≡ length (live t ++ (j ∷ [])) = ap (λ n. n + 1) many ∙ sym (length-append (live t) (j ∷ [])) in
+    let places : set (t .jobs) (t .count) j ≡ filled mostJobs noJob (live t ++ (j ∷ [])) =
+    (λ i. set (k .filled i .jobs) (many i) j) ∙ filled-more mostJobs noJob j (live t) (omega arith) in
+    λ i. record { count = count i; jobs = places i }
+
+-- the jobs behind one have moved up, and the last place is free
+pub one-less :
+    (t : Table) (at m : ℕ) → Tidy t → at < t .count → at + m ≡ t .count - 1 →
+    _≡_ {A = Table} (record { count = t .count - 1; jobs = set (paste (t .jobs) at (drop (at + 1) (t .jobs)) m) (t .count - 1) noJob }) (tableOf (take at (live t) ++ drop (at + 1) (live t)))
+one-less t at m k h e =
+    let xs = live t in
+    let many : t .count ≡ length xs = sym (live-count t k) in
+    let few = k .few in
+    let count : t .count - 1 ≡ length (take at xs ++ drop (at + 1) xs) =
+    ap (λ n. n - 1) many ∙ sym (length-without mostJobs noJob xs at (omega arith) (omega arith)) in
+    let places : set (paste (t .jobs) at (drop (at + 1) (t .jobs)) m) (t .count - 1) noJob ≡ filled mostJobs noJob (take at xs ++ drop (at + 1) xs) =
+    (λ i. set (paste (k .filled i .jobs) at (drop (at + 1) (k .filled i .jobs)) m) (many i - 1) noJob)
+    ∙ filled-without mostJobs noJob xs at (omega arith) (omega arith) m (omega arith) in
+    λ i. record { count = count i; jobs = places i }
+
+-- the job at a place is another
+pub one-changed :
+    (t : Table) (at : ℕ) (j : Job) → Tidy t → at < t .count →
+    _≡_ {A = Table} (record { count = t .count; jobs = set (t .jobs) at j }) (tableOf (set (live t) at j))
+one-changed t at j k h =
+    let many = live-count t k in
+    let count : t .count ≡ length (set (live t) at j) = sym many ∙ sym (length-set (live t) at j) in
+    let places : set (t .jobs) at j ≡ filled mostJobs noJob (set (live t) at j) =
+    (λ i. set (k .filled i .jobs) at j) ∙ filled-set mostJobs noJob (live t) at j (omega arith) in
+    λ i. record { count = count i; jobs = places i }
 
 -- a table in order, as a list of jobs
 pub jobs-in : (clock : Instant) (t : Table) → length (t .jobs) ≡ mostJobs → TableIn clock t → JobsIn clock (live t)
 jobs-in clock t l h =
-    let many : length (live t) ≡ t .count = length-take-le (t .count) (t .jobs) (omega (arith, h .few)) in
+    let many = live-count t (tidy-in clock t l h) in
     record { few = omega (arith, h .few); each = h .each; once = h .once }
 
 pub jobs-in-table : (clock : Instant) (js : List Job) → JobsIn clock js → TableIn clock (tableOf js)
 jobs-in-table clock js h =
     let p : JobsIn clock (live (tableOf js)) = subst (JobsIn clock) (sym (live-of js)) h in
     record { few = h .few; each = p .each; once = p .once; unused = unused-of-filled mostJobs noJob js }
-
-pub jobs-in-none : (clock : Instant) → JobsIn clock []
-jobs-in-none clock = record { few = omega arith; each = tt; once = λ n. omega arith }
 
 -- one more job in order, under a number that no live job has
 pub jobs-in-taken :
@@ -92,16 +115,3 @@ jobs-in-taken clock js j h l i free =
     go n false e =
         let none : bit (eqb n (j .number)) ≡ 0 = ap bit e in
         omega (arith, total-append (λ k. bit (eqb n (k .number))) js (j ∷ []), h .once n)
-
--- one job less
-pub jobs-in-without :
-    (clock : Instant) (js : List Job) (at : ℕ) → JobsIn clock js → at < length js →
-    JobsIn clock (take at js ++ drop (at + 1) js)
-jobs-in-without clock js at h l =
-    let less : length (take at js ++ drop (at + 1) js) ≡ length js - 1 = length-without mostJobs noJob js at l (h .few) in
-    record {
-      few = omega (arith, h .few);
-      each = each-append (JobIn clock) (take at js) (drop (at + 1) js) (each-take (JobIn clock) at js (h .each)) (each-drop (JobIn clock) (at + 1) js (h .each));
-      once = λ n.
-          omega (arith, ap (λ k. times n (take at js ++ drop k js)) (add-one at), total-without (λ k. bit (eqb n (k .number))) at js, h .once n);
-    }

@@ -7,7 +7,7 @@ use lib.Dec.{leb, ltb, eqb}
 use lib.ListN.{length, getD, take, drop}
 use Rattle.ticks.specs.declared.Instant.{Instant}
 use Rattle.ticks.specs.declared.Length.{Length}
-use Rattle.ticks.specs.Ticks.{lastInstant, mostJob, within, isJob, less, ticks, instant}
+use Rattle.ticks.specs.Ticks.{lastInstant, mostJob, within, jobLength, ticksSince, ticks, instant}
 use Rattle.lists.specs.Lists.{every, Each, total, bit, allOf, filled, keep}
 use Rattle.jobs.specs.declared.Job.{Job}
 use Rattle.jobs.specs.declared.Table.{Table}
@@ -17,6 +17,10 @@ use Rattle.jobs.specs.declared.Found.the-variants.{At, Nothing}
 -- as many live jobs as there are places
 abbrev pub mostJobs : ℕ
 mostJobs = 64
+
+-- as many numbers as the list call writes of a job
+abbrev pub numbersAJob : ℕ
+numbersAJob = 3
 
 -- a place that no job has
 abbrev pub noJob : Job
@@ -34,12 +38,10 @@ live t = take (t .count) (t .jobs)
 abbrev pub tableOf : List Job → Table
 tableOf js = record { count = length js; jobs = filled mostJobs noJob js }
 
--- a table whose unused places are all zero
-abbrev pub Kept : Table → Type 0
-Kept t = t ≡ tableOf (live t)
-
-abbrev pub numberAt : Table → ℕ → ℕ
-numberAt t i = getD (t .jobs) i noJob .number
+-- jobs at the front of their places, the other places all zero
+pub record Tidy (t : Table) : Type 0 where
+  pub few : t .count ≤ mostJobs
+  pub filled : t ≡ tableOf (live t)
 
 abbrev pub pickFound : Bool → Found → Found → Found
 pickFound true a b = a
@@ -69,9 +71,9 @@ unfoldable pub jobIn : Instant → Job → Bool
 jobIn clock j =
     allOf
     (leb 1 (j .number)
-    ∷ isJob (j .owed)
+    ∷ jobLength (j .owed)
     ∷ ltb (clock .0) (j .deadline .0)
-    ∷ isJob (less (j .deadline) clock)
+    ∷ jobLength (ticksSince (j .deadline) clock)
     ∷ within (j .deadline)
     ∷ [])
 

@@ -1,16 +1,17 @@
 // The live jobs: what each still owes and by when, in a table in the order of their yes. Look-up by number, taking one
-// more, taking one out, and the part of a state in order that concerns jobs.
-// It must not know feeds, nor what fits.
+// more, taking one out, serving one, and the part of a state in order that concerns jobs.
+// It must not know feeds, nor what fits, nor who is served.
 use ticks::Instant;
 use ticks::Length;
 ghost use mathlib.Core.Path.{_≡_};
+ghost use mathlib.Core.Bool.{not};
 ghost use mathlib.Core.List.{[], _∷_, _++_};
-ghost use Prim.Native.Nat.{_+_, _≤_, _<_};
+ghost use Prim.Native.Nat.{ℕ, _+_, _≤_, _<_};
 ghost use lib.ListN.{take, drop};
-ghost use Rattle.lists.specs.Lists.{every};
-ghost use Rattle.jobs.specs.Jobs.{mostJobs, noJob, job, jobIn, unusedJob, live, tableOf, foundIn, lacks};
-ghost use Rattle.jobs.specs.Jobs.{distinct};
-ghost use Rattle.jobs.specs.Jobs.{tableIn, numberAt, Kept};
+ghost use Rattle.lists.specs.Lists.{every, Each};
+ghost use Rattle.jobs.specs.Jobs.{mostJobs, numbersAJob, noJob, job, jobIn, unusedJob, live, tableOf, Tidy, foundIn, distinct};
+ghost use Rattle.jobs.specs.Jobs.{tableIn, times, lacks, others};
+ghost use Rattle.jobs.specs.Served.{Owing, served};
 
 // A customer's export that was promised: it still owes `owed` ticks before the deadline.
 #[repr(C)]
@@ -36,6 +37,10 @@ pub enum Found {
 impl Job {
     // As many jobs as there are places.
     pub const MOST: usize = 64;
+    // As many numbers as the list call writes of a job: its number, what it owes and its deadline.
+    pub const NUMBERS: usize = 3;
+    // The lowest number that a job may have; the highest is the highest of 32 bits.
+    pub const LOWEST: u32 = 1;
     // A place that no job has.
     pub const NONE: Job = Job {
         number: 0,
@@ -47,6 +52,12 @@ impl Job {
         ensures { λ r. ⌜ r ≡ mostJobs ⌝ }
     {
         Job::MOST
+    }
+
+    pub fn numbers() -> usize
+        ensures { λ r. ⌜ r ≡ numbersAJob ⌝ }
+    {
+        Job::NUMBERS
     }
 
     pub fn none() -> Job
@@ -70,16 +81,16 @@ impl Job {
     pub fn within(self, clock: Instant) -> bool
         ensures { λ r. ⌜ r ≡ jobIn clock self ⌝ }
     {
-        if self.number < 1 {
+        if self.number < Job::LOWEST {
             return false;
         }
-        if !self.owed.is_job() {
+        if !self.owed.suits_job() {
             return false;
         }
         if !self.deadline.is_after(clock) {
             return false;
         }
-        if !self.deadline.less(clock).is_job() {
+        if !self.deadline.ticks_since(clock).suits_job() {
             return false;
         }
         self.deadline.within()
@@ -135,13 +146,13 @@ impl Table {
         true
     }
 
-    // The first place from this one on that has the number.
-    fn find_from(self, number: u32, from: usize) -> Found
-        requires { ⌜ (self .count ≤ mostJobs) × (from ≤ self .count) ⌝ }
-        ensures { λ r. ⌜ r ≡ foundIn number from (drop from (live self)) ⌝ }
+    // The place of the live job with this number.
+    pub fn find(self, number: u32) -> Found
+        requires { ⌜ self .count ≤ mostJobs ⌝ }
+        ensures { λ r. ⌜ r ≡ foundIn number 0 (live self) ⌝ }
     {
         let count = self.count;
-        for i in from..count {
+        for i in 0..count {
             if self.jobs[i].number == number {
                 return Found::At(i);
             }
@@ -149,34 +160,29 @@ impl Table {
         Found::Nothing
     }
 
-    // The place of the live job with this number.
-    pub fn find(self, number: u32) -> Found
+    // Whether a live job has this number.
+    pub fn has(self, number: u32) -> bool
         requires { ⌜ self .count ≤ mostJobs ⌝ }
-        ensures { λ r. ⌜ r ≡ foundIn number 0 (live self) ⌝ }
+        ensures { λ r. ⌜ r ≡ not (lacks number (live self)) ⌝ }
     {
-        self.find_from(number, 0)
-    }
-
-    // No later job has the number of this one.
-    fn last_of_number(self, at: usize) -> bool
-        requires { ⌜ (self .count ≤ mostJobs) × (at < self .count) ⌝ }
-        ensures { λ r. ⌜ r ≡ lacks (numberAt self at) (drop (at + 1) (live self)) ⌝ }
-    {
-        let number = self.jobs[at].number;
-        match self.find_from(number, at + 1) {
-            Found::At(_) => false,
-            Found::Nothing => true,
+        match self.find(number) {
+            Found::At(_) => true,
+            Found::Nothing => false,
         }
     }
 
+    // Both loops stand here: a look from outside at each job in turn would copy the table each time.
     fn no_number_twice(self) -> bool
         requires { ⌜ self .count ≤ mostJobs ⌝ }
         ensures { λ r. ⌜ r ≡ distinct (live self) ⌝ }
     {
         let count = self.count;
         for i in 0..count {
-            if !self.last_of_number(i) {
-                return false;
+            let number = self.jobs[i].number;
+            for k in i + 1..count {
+                if self.jobs[k].number == number {
+                    return false;
+                }
             }
         }
         true
@@ -200,7 +206,7 @@ impl Table {
 
     // One more job, behind the others.
     pub fn taken(self, job: Job) -> Table
-        requires { ⌜ Kept self × (self .count < mostJobs) ⌝ }
+        requires { ⌜ Tidy self × (self .count < mostJobs) ⌝ }
         ensures { λ r. ⌜ r ≡ tableOf (live self ++ (job ∷ [])) ⌝ }
     {
         let at = self.count;
@@ -212,7 +218,7 @@ impl Table {
 
     // One job out; those behind it close up.
     pub fn without(self, at: usize) -> Table
-        requires { ⌜ Kept self × (self .count ≤ mostJobs) × (at < self .count) ⌝ }
+        requires { ⌜ Tidy self × (at < self .count) ⌝ }
         ensures { λ r. ⌜ r ≡ tableOf (take at (live self) ++ drop (at + 1) (live self)) ⌝ }
     {
         let last = self.count - 1;
@@ -225,5 +231,37 @@ impl Table {
         table.jobs[last] = Job::NONE;
         table.count = last;
         table
+    }
+
+    // The job of this number is out; those behind it close up.
+    pub fn end(self, number: u32) -> Table
+        requires { ⌜ Tidy self × ((n : ℕ) → times n (live self) ≤ 1) ⌝ }
+        ensures { λ r. ⌜ r ≡ tableOf (others number (live self)) ⌝ }
+    {
+        match self.find(number) {
+            Found::At(at) => self.without(at),
+            Found::Nothing => self,
+        }
+    }
+
+    // The job of this number has one tick less to get; it leaves with its last.
+    pub fn serve(self, number: u32) -> Table
+        requires { ⌜ Tidy self × Each Owing (live self) × ((n : ℕ) → times n (live self) ≤ 1) ⌝ }
+        ensures { λ r. ⌜ r ≡ tableOf (served number (live self)) ⌝ }
+    {
+        match self.find(number) {
+            Found::At(at) => {
+                let mut job = self.jobs[at];
+                let owed = job.owed.one_less();
+                if owed.is_none() {
+                    return self.without(at);
+                }
+                job.owed = owed;
+                let mut table = self;
+                table.jobs[at] = job;
+                table
+            }
+            Found::Nothing => self,
+        }
     }
 }

@@ -1,40 +1,79 @@
--- A state in order is read as a book in order that a desk can hold, and such a book is written as a state in order.
-use mathlib.Core.Path.{_≡_, refl, sym, ap, subst}
+-- A state in order is read as a book in order that can be written into it, and such a book makes a state in order.
+use mathlib.Core.Path.{_≡_, refl, sym, ap, subst, _∙_}
+use mathlib.Core.Bool.{true}
 use mathlib.Core.List.{List, [], _∷_, map}
 use Prim.Native.Nat.{ℕ, suc, _+_, _≤_, _<_, _∣_}
 use native.Mathlib.Omega.{arith}
 use lib.Dec.{eqb}
 use lib.ListN.{length, length-map}
+use borrow.Author.Tests.{leb-true, le-leb}
 use Rattle.lists.specs.Lists.{bit, eq, total, Each}
 use Rattle.lists.proofs.Lists.{each-imp, each-both, each-map, total-map}
-use Rattle.lists.proofs.Tests.{eq-elim}
+use Rattle.lists.proofs.Tests.{eq-elim, all-of, all-of-made}
 use Rattle.ticks.specs.declared.Instant.{Instant}
-use Rattle.ticks.specs.Ticks.{instant}
+use Rattle.ticks.specs.Ticks.{instant, ticks}
+use Rattle.plans.specs.Plans.{share}
 use Rattle.feeds.specs.declared.Feed.{Feed}
-use Rattle.feeds.specs.Feeds.{FeedIn, Passing}
-use Rattle.feeds.specs.Round.{periods, roundOf, load, share}
+use Rattle.feeds.specs.Feeds.{FeedIn, inUse, plansOf, feedsOf, owing}
+use Rattle.feeds.specs.Round.{periods, roundOf, load}
+use Rattle.feeds.specs.Lines.{Passing, FeedsIn}
+use Rattle.feeds.specs.Pieces.{PieceIn}
+use Rattle.feeds.proofs.Passing.{feeds-pass, feeds-tidy, feeds-pass-made, in-use-of, tidy-of, feeds-pass-of}
+use Rattle.feeds.proofs.Same.{same-passing}
 use Rattle.jobs.specs.declared.Job.{Job}
-use Rattle.jobs.specs.Jobs.{JobIn}
-use Rattle.edf.specs.Book.{Book}
+use Rattle.jobs.specs.Jobs.{JobIn, JobsIn, live, tableOf}
+use Rattle.jobs.proofs.Limits.{table-in, table-in-made}
+use Rattle.jobs.proofs.Places as jobs
+use Rattle.edf.specs.Book as edf
 use Rattle.edf.specs.Order.{FeedInOrder, JobInOrder, InOrder as BookInOrder}
-use Rattle.edf.specs.Load.{Light, aRound, Round}
+use Rattle.edf.specs.Load.{Light}
+use Rattle.edf.proofs.Loads.{aRound, Round}
 use Rattle.edf.proofs.Releases.{since-lt}
 use Rattle.edf.proofs.Rounds.{round-is-light}
-use Rattle.ledger.specs.Reading.{bookFeed, bookFeeds, bookJob, bookOf, feedOf, jobOf}
-use Rattle.ledger.specs.Pieces.{PieceIn}
-use Rattle.ledger.specs.InOrder.{InOrder, JobHeld, Held}
-use Rattle.ledger.proofs.Reading.{feeds-of-book, placed}
+use Rattle.ledger.specs.declared.Ledger.{Ledger}
+use Rattle.ledger.specs.State.{inOrder, Sized, InOrder}
+use Rattle.ledger.specs.Books.{bookPlan, bookFeed, bookFeeds, bookJob, bookAt, bookOf, jobOf, owingAs, rewritten, JobHeld, SameFeeds, Held}
+use Rattle.ledger.proofs.Books.{owing-as-plans, length-owing-as, read-owing-as}
+
+-- THE TEST OF A STATE, AS FACTS
+pub in-order : (l : Ledger) → Sized l → inOrder l ≡ true → InOrder l
+unfolding inOrder
+in-order l s h =
+    let t = all-of _ h in
+    let fs = feeds-pass (l .clock) (l .feeds) (t .1 .0) in
+    let js = table-in (l .clock) (l .table) (t .1 .1 .0) in
+    record {
+      clock = leb-true _ _ (t .0);
+      feeds = fs .feeds;
+      jobs = jobs.jobs-in (l .clock) (l .table) (s .jobs) js;
+      tidyFeeds = feeds-tidy (l .clock) (l .feeds) (s .feeds) fs;
+      tidyTable = jobs.tidy-in (l .clock) (l .table) (s .jobs) js;
+    }
+
+-- and back
+pub in-order-made : (l : Ledger) → InOrder l → inOrder l ≡ true
+unfolding inOrder
+in-order-made l h =
+    all-of-made _ (
+      le-leb _ _ (h .clock),
+      (
+        ap (λ s. Rattle.feeds.specs.Lines.feedsPass (l .clock) s) (h .tidyFeeds .filled) ∙ feeds-pass-of (inUse (l .feeds)) (l .clock) (h .feeds),
+        (
+          ap (λ t. Rattle.jobs.specs.Jobs.tableIn (l .clock) t) (h .tidyTable .filled)
+              ∙ table-in-made (l .clock) (tableOf (live (l .table))) (jobs.jobs-in-table (l .clock) (live (l .table)) (h .jobs)),
+          tt,
+        ),
+      ),
+    )
 
 -- a feed in order at its place
 feed-in-order : (clock : Instant) (k : ℕ) (f : Feed) → FeedIn f → PieceIn clock f → FeedInOrder (clock .0) (bookFeed k f)
 feed-in-order clock k f h p =
     record {
-      offset = h .offset;
-      lead = h .period .0;
-      short = omega arith;
+      plan = record { offset = h .offset; lead = h .period .0; short = omega arith };
       owes = p .owes;
       early = p .early;
-      over = λ l. absurd (omega (arith, since-lt (f .period .0) (f .offset .0) (clock .0) (h .offset)));
+      over = λ l. absurd (omega (arith, since-lt (bookPlan (f .plan)) (clock .0) (h .offset)));
     }
 
 feeds-in-order : (clock : Instant) (k : ℕ) (fs : List Feed) → Each FeedIn fs → Each (PieceIn clock) fs → Each (FeedInOrder (clock .0)) (bookFeeds k fs)
@@ -56,20 +95,20 @@ positions-once n k (f ∷ fs) =
     (λ p. omega (arith, positions-once n (suc k) fs))
 
 -- the round of the feeds carries them
-common-of : (R k : ℕ) (fs : List Feed) → Each (λ p. p ∣ R) (periods fs) → Each (λ f. f .period ∣ R) (bookFeeds k fs)
+common-of : (R k : ℕ) (fs : List Feed) → Each (λ p. p ∣ R) (periods fs) → Each (λ p. p .period ∣ R) (edf.plans (bookFeeds k fs))
 common-of R k [] h = tt
 common-of R k (f ∷ fs) h = (h .0, common-of R (suc k) fs (h .1))
 
-load-of : (R k : ℕ) (fs : List Feed) → total (aRound R) (bookFeeds k fs) ≡ load R fs
+load-of : (R k : ℕ) (fs : List Feed) → total (aRound R) (edf.plans (bookFeeds k fs)) ≡ load R fs
 load-of R k [] = refl
-load-of R k (f ∷ fs) = ap (share R f +_) (load-of R (suc k) fs)
+load-of R k (f ∷ fs) = ap (share R (f .plan) +_) (load-of R (suc k) fs)
 
-leads-of : (k : ℕ) (fs : List Feed) → Each (λ f. f .lead ≡ f .period) (bookFeeds k fs)
+leads-of : (k : ℕ) (fs : List Feed) → Each (λ p. p .lead ≡ p .period) (edf.plans (bookFeeds k fs))
 leads-of k [] = tt
 leads-of k (f ∷ fs) = (refl, leads-of (suc k) fs)
 
 -- FEEDS THAT PASS ARE LIGHT, and their round is a round of the mathematics
-pub book-round : (k : ℕ) (fs : List Feed) → Passing fs → Round (roundOf (periods fs)) (bookFeeds k fs)
+pub book-round : (k : ℕ) (fs : List Feed) → Passing fs → Round (roundOf (periods fs)) (edf.plans (bookFeeds k fs))
 book-round k fs h =
     let R = roundOf (periods fs) in
     record {
@@ -78,60 +117,83 @@ book-round k fs h =
       carried = subst (_≤ R) (sym (load-of R k fs)) (h .carried);
     }
 
-pub book-light : (k : ℕ) (fs : List Feed) → Passing fs → Light (bookFeeds k fs)
-book-light k fs h = round-is-light (roundOf (periods fs)) (bookFeeds k fs) (book-round k fs h) (leads-of k fs)
+pub book-light : (k : ℕ) (fs : List Feed) → Passing fs → Light (edf.plans (bookFeeds k fs))
+book-light k fs h = round-is-light (roundOf (periods fs)) (edf.plans (bookFeeds k fs)) (book-round k fs h) (leads-of k fs)
 
 -- IN ORDER, READ AS A BOOK
-pub book-in-order : (clock : Instant) (fs : List Feed) (js : List Job) → InOrder clock fs js → BookInOrder (bookOf clock fs js)
+pub book-in-order : (clock : Instant) (fs : List Feed) (js : List Job) → FeedsIn clock fs → JobsIn clock js → BookInOrder (bookAt clock fs js)
 unfolding eq
-book-in-order clock fs js h =
+book-in-order clock fs js h j =
     record {
-      feeds = feeds-in-order clock 1 fs (h .feeds .within) (h .pieces);
+      feeds = feeds-in-order clock 1 fs (h .passing .within) (h .pieces);
       jobs = each-map (JobInOrder (clock .0)) bookJob js
-          (each-imp (JobIn clock) (λ j. JobInOrder (clock .0) (bookJob j)) (λ j k. record { owes = k .owed .0; ahead = k .ahead }) js (h .jobs .each));
+          (each-imp (JobIn clock) (λ k. JobInOrder (clock .0) (bookJob k)) (λ k i. record { owes = i .owed .0; ahead = i .ahead }) js (j .each));
       positions = λ n. positions-once n 1 fs;
-      numbers = λ n. subst (_≤ 1) (sym (total-map (λ j. eq n (j .number)) bookJob js)) (h .jobs .once n);
+      numbers = λ n. subst (_≤ 1) (sym (total-map (λ k. eq n (k .number)) bookJob js)) (j .once n);
     }
 
-pub book-held : (clock : Instant) (fs : List Feed) (js : List Job) → InOrder clock fs js → Held (bookOf clock fs js)
-book-held clock fs js h =
+pub state-in-order : (l : Ledger) → InOrder l → BookInOrder (bookOf l)
+state-in-order l h = book-in-order (l .clock) (inUse (l .feeds)) (live (l .table)) (h .feeds) (h .jobs)
+
+pub state-light : (l : Ledger) → InOrder l → Light (edf.plans (bookOf l .feeds))
+state-light l h = book-light 1 (inUse (l .feeds)) (h .feeds .passing)
+
+pub state-held : (l : Ledger) → InOrder l → Held l (bookOf l)
+state-held l h =
+    let js = live (l .table) in
     let many : length (map bookJob js) ≡ length js = length-map js bookJob in
     record {
-      order = book-in-order clock fs js h;
+      order = state-in-order l h;
       clock = h .clock;
-      feeds = subst Passing (sym (feeds-of-book 1 fs)) (h .feeds);
-      placed = placed 1 fs;
+      feeds = record { positions = refl; plans = refl };
       few = omega (arith, h .jobs .few);
-      jobs = each-map (JobHeld (clock .0)) bookJob js
-          (each-imp (JobIn clock) (λ j. JobHeld (clock .0) (bookJob j))
+      jobs = each-map (JobHeld (l .clock .0)) bookJob js
+          (each-imp (JobIn (l .clock)) (λ j. JobHeld (l .clock .0) (bookJob j))
           (λ j k. record { number = k .number; owes = k .owed .1; near = k .near; within = k .within })
           js
           (h .jobs .each));
     }
 
--- AND BACK: a book that a desk can hold is written as a state in order
-pub held-in-order : (b : Book) → Held b → InOrder (instant (b .clock)) (map feedOf (b .feeds)) (map jobOf (b .jobs))
+-- the current pieces of feeds in the book
+pieces-written : (t k : ℕ) (fs : List Feed) → Each (FeedInOrder t) (bookFeeds k fs) → Each (PieceIn (instant t)) fs
+pieces-written t k [] h = tt
+pieces-written t k (f ∷ fs) h = (record { owes = h .0 .owes; early = h .0 .early }, pieces-written t (suc k) fs (h .1))
+
+-- the jobs of a book that a table can hold
+jobs-written : (b : edf.Book) → BookInOrder b → length (b .jobs) ≤ Rattle.jobs.specs.Jobs.mostJobs → Each (JobHeld (b .clock)) (b .jobs) → JobsIn (instant (b .clock)) (map jobOf (b .jobs))
 unfolding eq
-held-in-order b h =
+jobs-written b o few h =
     let many : length (map jobOf (b .jobs)) ≡ length (b .jobs) = length-map (b .jobs) jobOf in
     record {
+      few = omega arith;
+      each = each-map (JobIn (instant (b .clock))) jobOf (b .jobs)
+          (each-imp (λ j. JobInOrder (b .clock) j × JobHeld (b .clock) j) (λ j. JobIn (instant (b .clock)) (jobOf j))
+          (λ j k. record {
+            number = k .1 .number;
+            owed = (k .0 .owes, k .1 .owes);
+            ahead = k .0 .ahead;
+            near = k .1 .near;
+            within = k .1 .within;
+          })
+          (b .jobs)
+          (each-both (JobInOrder (b .clock)) (JobHeld (b .clock)) (b .jobs) (o .jobs) h));
+      once = λ n. subst (_≤ 1) (sym (total-map (λ j. bit (eqb n (j .number))) jobOf (b .jobs))) (o .numbers n);
+    }
+
+-- AND BACK: a book that can be written into a state in order makes a state in order
+pub rewritten-in-order : (l : Ledger) (b : edf.Book) → InOrder l → Held l b → InOrder (rewritten l b)
+rewritten-in-order l b o h =
+    let fs = inUse (l .feeds) in
+    let gs = owingAs (b .feeds) fs in
+    let js = map jobOf (b .jobs) in
+    let passing : Passing gs = same-passing fs gs (sym (owing-as-plans (b .feeds) fs)) (o .feeds .passing) in
+    let read : bookFeeds 1 gs ≡ b .feeds = read-owing-as 1 (b .feeds) fs (h .feeds .positions) (h .feeds .plans) in
+    let pieces = pieces-written (b .clock) 1 gs (subst (Each (FeedInOrder (b .clock))) (sym read) (h .order .feeds)) in
+    let table = jobs-written b (h .order) (h .few) (h .jobs) in
+    record {
       clock = h .clock;
-      feeds = h .feeds;
-      jobs = record {
-        few = omega (arith, h .few);
-        each = each-map (JobIn (instant (b .clock))) jobOf (b .jobs)
-            (each-imp (λ j. JobInOrder (b .clock) j × JobHeld (b .clock) j) (λ j. JobIn (instant (b .clock)) (jobOf j))
-            (λ j k. record {
-              number = k .1 .number;
-              owed = (k .0 .owes, k .1 .owes);
-              ahead = k .0 .ahead;
-              near = k .1 .near;
-              within = k .1 .within;
-            })
-            (b .jobs)
-            (each-both (JobInOrder (b .clock)) (JobHeld (b .clock)) (b .jobs) (h .order .jobs) (h .jobs)));
-        once = λ n. subst (_≤ 1) (sym (total-map (λ j. bit (eqb n (j .number))) jobOf (b .jobs))) (h .order .numbers n);
-      };
-      pieces = each-map (PieceIn (instant (b .clock))) feedOf (b .feeds)
-          (each-imp (FeedInOrder (b .clock)) (λ f. PieceIn (instant (b .clock)) (feedOf f)) (λ f k. record { owes = k .owes; early = k .early }) (b .feeds) (h .order .feeds));
+      feeds = subst (FeedsIn (instant (b .clock))) (sym (in-use-of gs)) (record { passing = passing; pieces = pieces });
+      jobs = subst (JobsIn (instant (b .clock))) (sym (jobs.live-of js)) table;
+      tidyFeeds = tidy-of gs (passing .few);
+      tidyTable = jobs.tidy-of js (table .few);
     }

@@ -1,4 +1,4 @@
+-- The laws that every crate above needs.
+pub mod Books
 pub mod Pieces
-pub mod Reading
 pub mod InOrder
-pub mod Positions

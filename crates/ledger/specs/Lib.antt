@@ -1,3 +1,2 @@
-pub mod Reading
-pub mod Pieces
-pub mod InOrder
+pub mod State
+pub mod Books

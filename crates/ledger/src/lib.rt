@@ -1,100 +1,52 @@
-// The desk's books: the clock, the feeds and the jobs read as the book of the mathematics and written back, what a state
-// in order says of the current pieces, and what an instant brings.
+// The state of a box, handed down whole: the clock, the feeds and the jobs. Whether it is in order, and the one way to make
+// a state from another; in its specs how it is read as a book of the mathematics and written from one.
 // It must not know refusals, nor the calls.
-use feeds::Feed;
 use feeds::Feeds;
+use jobs::Table;
 use ticks::Instant;
-use ticks::Length;
 ghost use mathlib.Core.Path.{_≡_};
-ghost use mathlib.Core.List.{map};
-ghost use Prim.Native.Nat.{_≤_};
-ghost use Rattle.lists.specs.Lists.{every, Each};
-ghost use Rattle.feeds.specs.Feeds.{mostFeeds, live, feedsOf, FeedIn};
-ghost use Rattle.ticks.specs.Ticks.{ticks};
-ghost use Rattle.ledger.specs.Pieces.{pieceIn, arrived, owesAt, restedFeeds};
+ghost use Rattle.ledger.specs.State.{empty, moved, inOrder};
 
-// What a state in order says of one current piece.
-fn piece_in(feed: Feed, clock: Instant) -> bool
-    ensures { λ r. ⌜ r ≡ pieceIn clock feed ⌝ }
-{
-    if feed.work.0 < feed.owes.0 {
-        return false;
-    }
-    if clock.0 < feed.offset.0 {
-        return feed.owes.is_none();
-    }
-    true
+#[repr(C)]
+pub struct Ledger {
+    pub clock: Instant,
+    pub feeds: Feeds,
+    pub table: Table,
 }
 
-// What a state in order says of the current pieces.
-pub fn pieces_in(feeds: Feeds, clock: Instant) -> bool
-    requires { ⌜ feeds .count ≤ mostFeeds ⌝ }
-    ensures { λ r. ⌜ r ≡ every (pieceIn clock) (live feeds) ⌝ }
-{
-    let count = feeds.count;
-    for i in 0..count {
-        if !piece_in(feeds.feeds[i], clock) {
-            return false;
+impl Ledger {
+    // The empty state: clock 0, no feeds, no jobs.
+    pub fn none() -> Ledger
+        ensures { λ r. ⌜ r ≡ empty ⌝ }
+    {
+        Ledger {
+            clock: Instant::FIRST,
+            feeds: Feeds::none(),
+            table: Table::none(),
         }
     }
-    true
-}
 
-// A feed whose piece comes at this instant has it, whole.
-fn arrived(feed: Feed, at: Instant) -> Feed
-    requires { ⌜ FeedIn feed ⌝ }
-    ensures { λ r. ⌜ r ≡ arrived at feed ⌝ }
-{
-    if at.0 % feed.period.0 == feed.offset.0 {
-        let work = feed.work;
-        let mut next = feed;
-        next.owes = work;
-        return next;
+    // Whether any state that is handed in is in order.
+    pub fn in_order(self) -> bool
+        ensures { λ r. ⌜ r ≡ inOrder self ⌝ }
+    {
+        if !self.clock.within() {
+            return false;
+        }
+        if !self.feeds.in_order(self.clock) {
+            return false;
+        }
+        self.table.in_order(self.clock)
     }
-    feed
-}
 
-// The pieces that come at this instant are ready.
-pub fn arrive(feeds: Feeds, at: Instant) -> Feeds
-    requires { ⌜ (feeds ≡ feedsOf (live feeds)) × (feeds .count ≤ mostFeeds) × Each FeedIn (live feeds) ⌝ }
-    ensures { λ r. ⌜ r ≡ feedsOf (map (arrived at) (live feeds)) ⌝ }
-{
-    let count = feeds.count;
-    let mut next = feeds;
-    for i in 0..count {
-        let feed = arrived(feeds.feeds[i], at);
-        next.feeds[i] = feed;
+    // The state at another instant, with other pieces and other jobs; everything else stays.
+    pub fn moved(self, clock: Instant, feeds: Feeds, table: Table) -> Ledger
+        ensures { λ r. ⌜ r ≡ moved self clock feeds table ⌝ }
+    {
+        Ledger {
+            clock,
+            feeds,
+            table,
+        }
     }
-    next
-}
-
-// What the current piece of the feed at this position still owes; nothing where there is no such feed.
-pub fn owes_at(feeds: Feeds, position: u32) -> Length
-    requires { ⌜ feeds .count ≤ mostFeeds ⌝ }
-    ensures { λ r. ⌜ r ≡ ticks (owesAt position 1 (live feeds)) ⌝ }
-{
-    let count = feeds.count;
-    let at = position as usize;
-    if at < 1 {
-        return Length::NONE;
-    }
-    if count < at {
-        return Length::NONE;
-    }
-    let feed = feeds.feeds[at - 1];
-    feed.owes
-}
-
-// The current piece of the feed at this position owes nothing from now on.
-pub fn rest_at(feeds: Feeds, position: u32) -> Feeds
-    requires { ⌜ (feeds ≡ feedsOf (live feeds)) × (feeds .count ≤ mostFeeds) × (1 ≤ position) × (position ≤ feeds .count) ⌝ }
-    ensures { λ r. ⌜ r ≡ feedsOf (restedFeeds position 1 (live feeds)) ⌝ }
-{
-    let at = position as usize;
-    let mut feed = feeds.feeds[at - 1];
-    let none = Length::NONE;
-    feed.owes = none;
-    let mut next = feeds;
-    next.feeds[at - 1] = feed;
-    next
 }

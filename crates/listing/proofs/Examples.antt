@@ -4,7 +4,7 @@ use mathlib.Core.List.{List, [], _∷_, _++_}
 use Prim.Native.Nat.{ℕ}
 use Rattle.ticks.specs.Ticks.{ticks, instant}
 use Rattle.jobs.specs.Jobs.{job}
-use Rattle.listing.specs.declared.Runner.the-variants.{Job, Feed, Idle}
+use Rattle.answers.specs.declared.Who.the-variants.{Job, Feed, Idle}
 use Rattle.listing.specs.Order.{goesFirst, firstAt, orderOf, listOrder, words}
 use Rattle.listing.specs.Labels.{recordFrom, labelOf, place, nowhere}
 

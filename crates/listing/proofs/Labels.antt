@@ -1,6 +1,6 @@
--- Looking up a record of the job labels.
-use mathlib.Core.Path.{_≡_, refl, sym, ap, ap₂, subst, _∙_}
-use mathlib.Core.Logic.{⊎-elim}
+-- Looking up a record of the job labels, and parts of the lent lists.
+use mathlib.Core.Path.{_≡_, refl, sym, ap, subst, _∙_}
+use mathlib.Core.Logic.{_⊎_, inl, inr, ⊎-elim}
 use mathlib.Core.Bool.{Bool, true, false, cond, _&&_}
 use mathlib.Core.List.{List}
 use Prim.Native.Nat.{ℕ, zero, suc, _+_, _*_, _-_, _≤_, _<_}
@@ -9,11 +9,15 @@ use native.Mathlib.Omega.{arith}
 use lib.Dec.{eqb, leb}
 use lib.ListN.{length, take, drop}
 use denote.Ref.{RefT}
-use borrow.Author.Tests.{eq-eqb, ne-eqb, eqb-true, eqb-false, le-leb, lt-leb}
+use borrow.Author.Tests.{eq-eqb, ne-eqb, eqb-true, eqb-false}
+use Rattle.lists.proofs.Tests.{leb-elim}
+use Rattle.answers.specs.declared.Who.{Who}
+use Rattle.answers.specs.declared.Who.the-variants.{Job, Feed, Idle}
+use Rattle.jobs.specs.declared.Found.{Found}
 use Rattle.jobs.specs.declared.Found.the-variants.{At, Nothing}
 use Rattle.jobs.specs.Jobs.{pickFound}
 use Rattle.listing.specs.declared.Part.{Part}
-use Rattle.listing.specs.Labels.{recordNumber, recordFrom, whole, recordOf, place, nowhere, jobPlace, feedPlace, PartAt}
+use Rattle.listing.specs.Labels.{labelBytes, recordBytes, recordNumber, recordFrom, whole, recordOf, place, nowhere, jobPlace, labelOf, lent, PartAt}
 
 -- the next record has the number
 pub record-here : (m : ℕ) (s : List ℕ) (n k : ℕ) → recordNumber s k ≡ n → recordFrom (suc m) s n k ≡ At k
@@ -55,8 +59,8 @@ found-from (suc m) s n k i e = go (eqb (recordNumber s k) n) refl (found-from m 
         )
 
 -- the record that is found is wholly there
-pub record-inside : (s : List ℕ) (n k : ℕ) → recordOf s n ≡ At k → 12 * k + 12 ≤ length s
-record-inside s n k e = omega (arith, found-from (whole s) s n 0 k e .0, mul-div-le (length s) 12)
+pub record-inside : (s : List ℕ) (n k : ℕ) → recordOf s n ≡ At k → recordBytes * k + recordBytes ≤ length s
+record-inside s n k e = omega (arith, found-from (whole s) s n 0 k e .0, mul-div-le (length s) recordBytes)
 
 -- the first whole record with the number
 pub record-first : (s : List ℕ) (n k : ℕ) → recordOf s n ≡ At k → FirstRecord s n 0 k
@@ -78,32 +82,32 @@ nothing-from (suc m) s n k e h p q r = go (eqb (recordNumber s k) n) refl e (λ 
 pub record-nowhere : (s : List ℕ) (n k : ℕ) → recordOf s n ≡ Nothing → k < whole s → recordNumber s k ≡ n → ⊥
 record-nowhere s n k e h = nothing-from (whole s) s n 0 e k (omega arith) (omega arith)
 
--- a part of the first list, and of the second
-module _ (p : Part) (s f : RefT (List ℕ)) (a e g : ℕ) where
-  pub part-first : p ≡ place 1 a (e - a) → PartAt p s f (record { ptr = (s .ptr .0, a + s .ptr .1); name = g; now = take (e - a) (drop a (s .now)) })
-  part-first h =
-      subst (λ q. PartAt q s f (record { ptr = (s .ptr .0, a + s .ptr .1); name = g; now = take (e - a) (drop a (s .now)) })) (sym h)
-      (record { text = refl; block = refl; offset = refl })
+-- a place lies wholly in the list that it names
+abbrev pub Inside : Part → List ℕ → List ℕ → Type 0
+Inside p s f = ((p .list ≡ 1) × (p .from + p .size ≤ length s)) ⊎ ((p .list ≡ 2) × (p .from + p .size ≤ length f))
 
-  pub part-second : p ≡ place 2 a (e - a) → PartAt p s f (record { ptr = (f .ptr .0, a + f .ptr .1); name = g; now = take (e - a) (drop a (f .now)) })
-  part-second h =
-      subst (λ q. PartAt q s f (record { ptr = (f .ptr .0, a + f .ptr .1); name = g; now = take (e - a) (drop a (f .now)) })) (sym h)
-      (record { text = refl; block = refl; offset = refl })
+pub label-inside : (w : Who) (s f : List ℕ) → Inside (labelOf w s f) s f
+label-inside (Job n) s f = go (recordOf s n) refl
+  where
+    go : (r : Found) → recordOf s n ≡ r → Inside (jobPlace r) s f
+    go (At k) e = inl (refl, omega (arith, record-inside s n k e))
+    go Nothing e = inl (refl, omega arith)
+label-inside (Feed p) s f =
+    let there = place 2 (labelBytes * (p - 1)) labelBytes in
+    leb-elim (λ a. Inside (cond (a && leb (labelBytes * p) (length f)) there nowhere) s f) 1 p
+    (λ h. leb-elim (λ b. Inside (cond b there nowhere) s f) (labelBytes * p) (length f) (λ l. inr (refl, omega arith)) (λ l. inl (refl, omega arith)))
+    (λ h. inl (refl, omega arith))
+label-inside Idle s f = inl (refl, omega arith)
 
--- the label of a record that was found
-pub job-there : (k a e : ℕ) → a ≡ 12 * k + 4 → e ≡ a + 8 → jobPlace (At k) ≡ place 1 a (e - a)
-job-there k a e p q = ap₂ (place 1) (sym p) (omega arith)
-
--- the label of a position: wholly there, or too short, or no position
-module _ (p long : ℕ) where
-  picked : (a b : Bool) → leb 1 p ≡ a → leb (8 * p) long ≡ b → feedPlace p long ≡ cond (a && b) (place 2 (8 * (p - 1)) 8) nowhere
-  picked a b one two = ap₂ (λ x y. cond (x && y) (place 2 (8 * (p - 1)) 8) nowhere) one two
-
-  pub feed-there : (a e : ℕ) → 1 ≤ p → 8 * p ≤ long → a ≡ 8 * (p - 1) → e ≡ a + 8 → feedPlace p long ≡ place 2 a (e - a)
-  feed-there a e h l f g = picked true true (le-leb 1 p h) (le-leb (8 * p) long l) ∙ ap₂ (place 2) (sym f) (omega arith)
-
-  pub feed-short : 1 ≤ p → long < 8 * p → feedPlace p long ≡ nowhere
-  feed-short h l = picked true false (le-leb 1 p h) (lt-leb (8 * p) long l)
-
-  pub feed-none : p < 1 → feedPlace p long ≡ nowhere
-  feed-none l = picked false (leb (8 * p) long) (lt-leb 1 p l) refl
+-- the bytes of a place in the list that it names are that part of it
+pub part-of :
+    (p q : Part) (s f l : RefT (List ℕ)) (e g : ℕ) → p ≡ q → lent (p .list) s f ≡ l → e ≡ p .from + p .size →
+    PartAt q s f (record { ptr = (l .ptr .0, p .from + l .ptr .1); name = g; now = take (e - p .from) (drop (p .from) (l .now)) })
+part-of p q s f l e g same list long =
+    let size : e - p .from ≡ p .size = omega arith in
+    subst (λ r. PartAt r s f (record { ptr = (l .ptr .0, p .from + l .ptr .1); name = g; now = take (e - p .from) (drop (p .from) (l .now)) })) same
+    (record {
+      text = λ i. take (size i) (drop (p .from) (sym list i .now));
+      block = λ i. sym list i .ptr .0;
+      offset = λ i. p .from + sym list i .ptr .1;
+    })

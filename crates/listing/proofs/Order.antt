@@ -16,7 +16,7 @@ use Rattle.lists.proofs.Places.{each-take, each-drop, each-getD, length-without
 use Rattle.jobs.specs.declared.Job.{Job}
 use Rattle.jobs.specs.declared.Table.{Table}
 use Rattle.jobs.specs.Jobs.{noJob, mostJobs, live}
-use Rattle.listing.specs.Order.{goesFirst, aheadOf, firstAt, without, orderOf, listOrder, GoesFirst, Sorted}
+use Rattle.listing.specs.Order.{goesFirst, firstAt, without, orderOf, listOrder, GoesFirst, Sorted}
 
 -- the test of two jobs says that the one stands before the other, or else the other before it
 module _ (a b : Job) where
@@ -186,7 +186,7 @@ module _ (t : Table) (long : length (t .jobs) ≡ mostJobs) (few : t .count ≤ 
   -- one more job, before those that were looked at
   pub first-step :
       (k at : ℕ) → k + 1 < t .count → at ≡ k + 1 + firstAt (drop (k + 1) (live t)) →
-      aheadOf t k at ≡ k + firstAt (drop k (live t))
+      cond (goesFirst (getD (t .jobs) k noJob) (getD (t .jobs) at noJob)) k at ≡ k + firstAt (drop k (live t))
   first-step k at h e =
       let js = drop (k + 1) (live t) in
       let j = getD (t .jobs) k noJob in

@@ -10,8 +10,8 @@ use Rattle.jobs.specs.declared.Found.{Found}
 use Rattle.jobs.specs.declared.Found.the-variants.{At, Nothing}
 use Rattle.jobs.specs.Jobs.{pickFound}
 use Rattle.listing.specs.declared.Part.{Part}
-use Rattle.listing.specs.declared.Runner.{Runner}
-use Rattle.listing.specs.declared.Runner.the-variants.{Job, Feed, Idle}
+use Rattle.answers.specs.declared.Who.{Who}
+use Rattle.answers.specs.declared.Who.the-variants.{Job, Feed, Idle}
 
 -- a part of one of the two lent lists: 1 the job labels, 2 the feed labels; where it begins, and how many bytes it has
 abbrev pub place : ℕ → ℕ → ℕ → Part
@@ -21,13 +21,23 @@ place l f s = record { list = l; from = f; size = s }
 abbrev pub nowhere : Part
 nowhere = place 1 0 0
 
+-- a record of the job labels: a number, then a label; the feed labels are labels alone
+abbrev pub numberBytes : ℕ
+numberBytes = 4
+
+abbrev pub labelBytes : ℕ
+labelBytes = 8
+
+abbrev pub recordBytes : ℕ
+recordBytes = numberBytes + labelBytes
+
 -- the number in the four bytes from here on, the highest first
 abbrev pub bigEndian : List ℕ → ℕ → ℕ
 bigEndian s at = ((getD s at 0 * 256 + getD s (at + 1) 0) * 256 + getD s (at + 2) 0) * 256 + getD s (at + 3) 0
 
 -- the number of the record k of the job labels, counted from 0
 abbrev pub recordNumber : List ℕ → ℕ → ℕ
-recordNumber s k = bigEndian s (12 * k)
+recordNumber s k = bigEndian s (recordBytes * k)
 
 -- the first of m records from record k on that has the number
 unfoldable pub recordFrom : ℕ → List ℕ → ℕ → ℕ → Found
@@ -36,7 +46,7 @@ recordFrom (suc m) s n k = pickFound (eqb (recordNumber s k) n) (At k) (recordFr
 
 -- as many records as are wholly there
 abbrev pub whole : List ℕ → ℕ
-whole s = length s / 12
+whole s = length s / recordBytes
 
 -- the first whole record that has the number
 abbrev pub recordOf : List ℕ → ℕ → Found
@@ -44,15 +54,15 @@ recordOf s n = recordFrom (whole s) s n 0
 
 -- the label of a record stands behind its number
 abbrev pub jobPlace : Found → Part
-jobPlace (At k) = place 1 (12 * k + 4) 8
+jobPlace (At k) = place 1 (recordBytes * k + numberBytes) labelBytes
 jobPlace Nothing = nowhere
 
 -- the position's bytes, positions from 1, if they are wholly there
 abbrev pub feedPlace : ℕ → ℕ → Part
-feedPlace p long = cond (leb 1 p && leb (8 * p) long) (place 2 (8 * (p - 1)) 8) nowhere
+feedPlace p long = cond (leb 1 p && leb (labelBytes * p) long) (place 2 (labelBytes * (p - 1)) labelBytes) nowhere
 
 -- the place of the runner's label; for idle, or where no label is there, the empty beginning of the first list
-abbrev pub labelOf : Runner → List ℕ → List ℕ → Part
+abbrev pub labelOf : Who → List ℕ → List ℕ → Part
 labelOf (Job n) s f = jobPlace (recordOf s n)
 labelOf (Feed p) s f = feedPlace p (length f)
 labelOf Idle s f = nowhere

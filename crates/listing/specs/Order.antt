@@ -7,16 +7,11 @@ use lib.Dec.{leb, ltb, eqb}
 use lib.ListN.{length, getD, take, drop}
 use Rattle.lists.specs.Lists.{Each}
 use Rattle.jobs.specs.declared.Job.{Job}
-use Rattle.jobs.specs.declared.Table.{Table}
 use Rattle.jobs.specs.Jobs.{noJob}
 
 -- one job stands before another in the list: its deadline is earlier, or it is the same and the number not higher
 unfoldable pub goesFirst : Job → Job → Bool
 goesFirst a b = cond (eqb (a .deadline .0) (b .deadline .0)) (leb (a .number) (b .number)) (ltb (a .deadline .0) (b .deadline .0))
-
--- of two places, the one whose job stands before the other's
-abbrev pub aheadOf : Table → ℕ → ℕ → ℕ
-aheadOf t i k = cond (goesFirst (getD (t .jobs) i noJob) (getD (t .jobs) k noJob)) i k
 
 -- the place of the job that stands before all the others
 unfoldable pub firstAt : List Job → ℕ
@@ -37,7 +32,7 @@ orderOf (suc n) js = getD js (firstAt js) noJob ∷ orderOf n (without (firstAt 
 abbrev pub listOrder : List Job → List Job
 listOrder js = orderOf (length js) js
 
--- three numbers a job: number, owed, deadline
+-- the numbers of a job: number, owed, deadline
 abbrev pub wordsOf : Job → List ℕ
 wordsOf j = j .number ∷ j .owed .0 ∷ j .deadline .0 ∷ []
 

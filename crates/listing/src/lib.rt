@@ -1,22 +1,15 @@
 // What a caller reads off the desk into lists of its own: the live jobs in order, and the label of the one that runs.
 // It must not know feeds, refusals, nor who the runner is.
-use jobs::Found;
+use answers::Who;
 use jobs::Job;
 use jobs::Table;
 ghost use mathlib.Core.Path.{_≡_};
 ghost use mathlib.Core.List.{_++_};
 ghost use Prim.Native.Nat.{_+_, _*_, _≤_, _<_};
 ghost use lib.ListN.{length, take, drop};
-ghost use Rattle.jobs.specs.Jobs.{mostJobs, live, Kept};
-ghost use Rattle.listing.specs.Order.{goesFirst, aheadOf, firstAt, listOrder, wordsOf, words};
-ghost use Rattle.listing.specs.Labels.{bigEndian, recordOf, feedPlace, labelOf, PartAt};
-
-// Whose label is wanted: a job by its number, a feed by its position, or nobody's.
-pub enum Runner {
-    Job(u32),
-    Feed(u32),
-    Idle,
-}
+ghost use Rattle.jobs.specs.Jobs.{mostJobs, numbersAJob, live, Tidy};
+ghost use Rattle.listing.specs.Order.{goesFirst, firstAt, listOrder, wordsOf, words};
+ghost use Rattle.listing.specs.Labels.{bigEndian, recordOf, jobPlace, feedPlace, labelOf, PartAt};
 
 // A part of one of the two lent lists: 1 the job labels, 2 the feed labels; where it begins, and how many bytes it has.
 #[repr(C)]
@@ -25,6 +18,25 @@ pub struct Part {
     pub from: usize,
     pub size: usize,
 }
+
+impl Part {
+    pub const JOBS: u32 = 1;
+
+    pub const FEEDS: u32 = 2;
+    // No label: the empty beginning of the first list.
+    pub const NOWHERE: Part = Part {
+        list: Part::JOBS,
+        from: 0,
+        size: 0,
+    };
+}
+
+// A record of the job labels: the job's number in four bytes, then its label. The feed labels are labels alone.
+const NUMBER: usize = 4;
+
+const LABEL: usize = 8;
+
+const RECORD: usize = NUMBER + LABEL;
 
 // The earlier deadline first, then the lower number.
 fn goes_first(job: Job, other: Job) -> bool
@@ -36,18 +48,6 @@ fn goes_first(job: Job, other: Job) -> bool
     job.deadline.0 < other.deadline.0
 }
 
-fn ahead_of(table: Table, place: usize, other: usize) -> usize
-    requires { ⌜ (place < mostJobs) × (other < mostJobs) ⌝ }
-    ensures { λ r. ⌜ r ≡ aheadOf table place other ⌝ }
-{
-    let mine = table.jobs[place];
-    let theirs = table.jobs[other];
-    if goes_first(mine, theirs) {
-        return place;
-    }
-    other
-}
-
 // The place of the job that goes before all the others.
 fn first_of(table: Table) -> usize
     requires { ⌜ (0 < table .count) × (table .count ≤ mostJobs) ⌝ }
@@ -57,15 +57,17 @@ fn first_of(table: Table) -> usize
     let mut i = at;
     while 0 < i {
         i = i - 1;
-        at = ahead_of(table, i, at);
+        if goes_first(table.jobs[i], table.jobs[at]) {
+            at = i;
+        }
     }
     at
 }
 
-// Three numbers of a job, from one place of the buffer on.
+// The numbers of a job, from one place of the buffer on.
 fn put(buffer: &mut [u64], at: usize, job: Job)
-    requires { ⌜ at + 3 ≤ length (now buffer) ⌝ }
-    ensures { λ _. ⌜ now (buffer .exit) ≡ take at (now (buffer .entry)) ++ (wordsOf job ++ drop (at + 3) (now (buffer .entry))) ⌝ }
+    requires { ⌜ at + numbersAJob ≤ length (now buffer) ⌝ }
+    ensures { λ _. ⌜ now (buffer .exit) ≡ take at (now (buffer .entry)) ++ (wordsOf job ++ drop (at + numbersAJob) (now (buffer .entry))) ⌝ }
 {
     buffer[at] = job.number as u64;
     buffer[at + 1] = job.owed.0;
@@ -74,15 +76,15 @@ fn put(buffer: &mut [u64], at: usize, job: Job)
 
 // The live jobs into the front of the buffer; the rest of it is untouched.
 pub fn list(table: Table, buffer: &mut [u64]) -> usize
-    requires { ⌜ Kept table × (table .count ≤ mostJobs) × (3 * table .count ≤ length (now buffer)) ⌝ }
-    ensures { λ r. ⌜ (r ≡ length (live table)) × (now (buffer .exit) ≡ words (listOrder (live table)) ++ drop (3 * table .count) (now (buffer .entry))) ⌝ }
+    requires { ⌜ Tidy table × (numbersAJob * table .count ≤ length (now buffer)) ⌝ }
+    ensures { λ r. ⌜ (r ≡ length (live table)) × (now (buffer .exit) ≡ words (listOrder (live table)) ++ drop (numbersAJob * table .count) (now (buffer .entry))) ⌝ }
 {
     let count = table.count;
     let mut left = table;
     for i in 0..count {
         let at = first_of(left);
         let job = left.jobs[at];
-        put(buffer, 3 * i, job);
+        put(buffer, Job::NUMBERS * i, job);
         left = left.without(at);
     }
     count
@@ -107,17 +109,22 @@ fn big_endian(labels: &[u8], at: usize) -> u64
     ((first * 256 + second) * 256 + third) * 256 + fourth
 }
 
-// The first whole record with this number.
-fn record_of(number: u32, labels: &[u8]) -> Found
-    ensures { λ r. ⌜ r ≡ recordOf (now (labels .entry)) number ⌝ }
+// The label of the first whole record with this number stands behind the number.
+fn job_place(number: u32, labels: &[u8]) -> Part
+    ensures { λ r. ⌜ r ≡ jobPlace (recordOf (now (labels .entry)) number) ⌝ }
 {
-    let whole = labels.len() / 12;
+    let whole = labels.len() / RECORD;
     for k in 0..whole {
-        if big_endian(labels, 12 * k) == number as u64 {
-            return Found::At(k);
+        let at = RECORD * k;
+        if big_endian(labels, at) == number as u64 {
+            return Part {
+                list: Part::JOBS,
+                from: at + NUMBER,
+                size: LABEL,
+            };
         }
     }
-    Found::Nothing
+    Part::NOWHERE
 }
 
 // The place of a position's label in so many bytes.
@@ -125,80 +132,39 @@ fn feed_place(position: u32, long: usize) -> Part
     ensures { λ r. ⌜ r ≡ feedPlace position long ⌝ }
 {
     if position == 0 {
-        return Part {
-            list: 1,
-            from: 0,
-            size: 0,
-        };
+        return Part::NOWHERE;
     }
-    let before = position as usize - 1;
-    let from = 8 * before;
-    if long < from + 8 {
-        return Part {
-            list: 1,
-            from: 0,
-            size: 0,
-        };
+    let from = LABEL * (position as usize - 1);
+    if long < from + LABEL {
+        return Part::NOWHERE;
     }
     Part {
-        list: 2,
+        list: Part::FEEDS,
         from,
-        size: 8,
+        size: LABEL,
     }
 }
 
-// The runner's label, where it stands in the list that holds it; the empty beginning of the first list where there is none.
-pub fn label<'a>(runner: Runner, job_labels: &'a [u8], feed_labels: &'a [u8]) -> &'a [u8]
-    ensures { λ r. ⌜ PartAt (labelOf runner (now («job_labels» .entry)) (now («feed_labels» .entry))) («job_labels» .entry) («feed_labels» .entry) r ⌝ }
-{
-    match runner {
-        Runner::Job(number) => {
-            let Found::At(k) = record_of(number, job_labels) else {
-                return &job_labels[0..0];
-            };
-            let from = 12 * k + 4;
-            let end = from + 8;
-            return &job_labels[from..end];
-        }
-        Runner::Feed(position) => {
-            if position < 1 {
-                return &job_labels[0..0];
-            }
-            let from = 8 * (position as usize - 1);
-            let end = from + 8;
-            if feed_labels.len() < end {
-                return &job_labels[0..0];
-            }
-            return &feed_labels[from..end];
-        }
-        Runner::Idle => {
-            return &job_labels[0..0];
-        }
-    }
-}
-
-// The same place by value, for callers that cannot be lent a part.
-pub fn place(runner: Runner, job_labels: &[u8], feed_labels: &[u8]) -> Part
+// Where the runner's label stands; the empty beginning of the first list where there is none.
+pub fn place(runner: Who, job_labels: &[u8], feed_labels: &[u8]) -> Part
     ensures { λ r. ⌜ r ≡ labelOf runner (now («job_labels» .entry)) (now («feed_labels» .entry)) ⌝ }
 {
     match runner {
-        Runner::Job(number) => match record_of(number, job_labels) {
-            Found::At(k) => Part {
-                list: 1,
-                from: 12 * k + 4,
-                size: 8,
-            },
-            Found::Nothing => Part {
-                list: 1,
-                from: 0,
-                size: 0,
-            },
-        },
-        Runner::Feed(position) => feed_place(position, feed_labels.len()),
-        Runner::Idle => Part {
-            list: 1,
-            from: 0,
-            size: 0,
-        },
+        Who::Job(number) => job_place(number, job_labels),
+        Who::Feed(position) => feed_place(position, feed_labels.len()),
+        Who::Idle => Part::NOWHERE,
     }
+}
+
+// The runner's label itself, a part of the list that holds it.
+pub fn label<'a>(runner: Who, job_labels: &'a [u8], feed_labels: &'a [u8]) -> &'a [u8]
+    ensures { λ r. ⌜ PartAt (labelOf runner (now («job_labels» .entry)) (now («feed_labels» .entry))) («job_labels» .entry) («feed_labels» .entry) r ⌝ }
+{
+    let part = place(runner, job_labels, feed_labels);
+    let from = part.from;
+    let end = from + part.size;
+    if part.list == Part::JOBS {
+        return &job_labels[from..end];
+    }
+    &feed_labels[from..end]
 }

@@ -1,11 +1,12 @@
 -- What the front of a mesh file and the file's length come to: the lines in their order, then the work.
-use mathlib.Core.Bool.{not, cond}
-use mathlib.Core.List.{List}
+use mathlib.Core.Bool.{not}
+use mathlib.Core.List.{List, [], _∷_}
 use Prim.Native.Nat.{ℕ, _+_, _*_}
 use lib.Dec.{ltb, eqb}
 use lib.ListN.{length, getD}
 use Rattle.mesh.specs.declared.Mesh.{Mesh}
-use Rattle.mesh.specs.declared.Mesh.the-variants.{Short, Disagrees, Empty, Work}
+use Rattle.answers.specs.declared.Refusal.the-variants.{ShortFront, LengthOff, NoTriangles}
+use Rattle.answers.specs.Answers.{Line, line, firstOf, onYes}
 use Rattle.mesh.specs.Bands.{workOf}
 
 -- the bytes before the triangle count
@@ -28,9 +29,19 @@ trianglesOf s = littleEndian s headerBytes
 abbrev pub fileBytes : ℕ → ℕ
 fileBytes n = frontBytes + 50 * n
 
--- lines 15, 16 and 17 in this order, of the bytes that are lent and the file's length; then the work
+-- fewer bytes are lent than the front of a file has (15), the file is not as long as its triangles make it (16), there are
+-- no triangles (17)
+abbrev pub meshLines : List ℕ → ℕ → List Line
+meshLines s size =
+    line (ltb (length s) frontBytes) ShortFront
+    ∷ line (not (eqb size (fileBytes (trianglesOf s)))) LengthOff
+    ∷ line (eqb (trianglesOf s) 0) NoTriangles
+    ∷ []
+
+-- the first of these lines that holds; where none does, the work
 unfoldable pub meshOf : List ℕ → ℕ → Mesh
 meshOf s size =
-    cond (ltb (length s) frontBytes) Short
-    (cond (not (eqb size (fileBytes (trianglesOf s)))) Disagrees
-    (cond (eqb (trianglesOf s) 0) Empty (Work (workOf (trianglesOf s)))))
+    record {
+      verdict = firstOf (meshLines s size);
+      work = onYes (firstOf (meshLines s size)) (workOf (trianglesOf s)) 0;
+    }

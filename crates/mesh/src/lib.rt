@@ -1,20 +1,17 @@
 // What a mesh file says of its own work: from the front of a binary STL file and the file's length to the ticks that its
 // export wants. It must not know the desk, nor what is asked with the work.
+use answers::Refusal;
+use answers::Verdict;
 ghost use mathlib.Core.Path.{_≡_};
 ghost use Prim.Native.Nat.{_≤_, _<_, _^_};
 ghost use lib.ListN.{length};
 ghost use Rattle.mesh.specs.Bands.{workOf};
 ghost use Rattle.mesh.specs.Meshes.{frontBytes, trianglesOf, meshOf};
 
-// What the counter learns of a mesh: why it cannot be asked with, or the ticks that it wants.
-pub enum Mesh {
-    // Fewer bytes were lent than the front of the file has.
-    Short,
-    // The file is not as long as its triangles make it.
-    Disagrees,
-    // There are no triangles.
-    Empty,
-    Work(u32),
+// What a mesh says: why it cannot be asked with, or yes and the ticks that it wants.
+pub struct Mesh {
+    pub verdict: Verdict,
+    pub work: u32,
 }
 
 // The front of the file: a header that says nothing of the work, and the triangle count behind it.
@@ -58,20 +55,32 @@ fn work(count: u64) -> u32
     }
 }
 
-// The front of a file of so many bytes; what is lent behind the front is not looked at.
+// What the front of a file of so many bytes says, by lines 15, 16 and 17; what is lent behind the front is not looked at.
 pub fn read(head: &[u8], size: u64) -> Mesh
     ensures { λ r. ⌜ r ≡ meshOf (now (head .entry)) size ⌝ }
 {
     if head.len() < FRONT {
-        return Mesh::Short;
+        return Mesh {
+            verdict: Verdict::No(Refusal::ShortFront),
+            work: 0,
+        };
     }
     let count = triangles(head);
     let whole = FRONT as u64 + TRIANGLE * count;
     if size != whole {
-        return Mesh::Disagrees;
+        return Mesh {
+            verdict: Verdict::No(Refusal::LengthOff),
+            work: 0,
+        };
     }
     if count == 0 {
-        return Mesh::Empty;
+        return Mesh {
+            verdict: Verdict::No(Refusal::NoTriangles),
+            work: 0,
+        };
     }
-    Mesh::Work(work(count))
+    Mesh {
+        verdict: Verdict::Yes,
+        work: work(count),
+    }
 }

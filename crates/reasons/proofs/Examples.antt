@@ -14,15 +14,16 @@ use borrow.Author.Tests.{leb-true, eqb-true}
 use Rattle.lists.specs.Lists.{eq, every, allOf, Each}
 use Rattle.lists.proofs.Tests.{false-not-true, ltb-elim, ltb-says, eq-elim, eq-le, both, all-of}
 use Rattle.lists.proofs.Places.{each-of-every}
-use Rattle.edf.specs.Book.{Book}
+use Rattle.edf.specs.Book.{Book, owing, plans}
 use Rattle.edf.specs.Releases.{since}
 use Rattle.edf.specs.Owed.{byThen, owedBy, Room}
 use Rattle.edf.specs.Order.{FeedInOrder, InOrder}
 use Rattle.edf.specs.Calls.{taking}
-use Rattle.edf.specs.Load.{opened, Round, Beyond}
+use Rattle.edf.specs.Load.{opened}
+use Rattle.edf.proofs.Loads.{Round, Beyond}
 use Rattle.edf.specs.Margin.{margin, FirstOverbooked, Tightest, Telling}
 use Rattle.edf.proofs.Releases.{since-lt}
-use Rattle.edf.proofs.Examples.{X, request}
+use Rattle.edf.proofs.Examples.{plain, X, request}
 use Rattle.edf.proofs.Margin.{margin-within-horizon}
 
 -- X with a request
@@ -100,15 +101,13 @@ abbrev smaller : Book → ℕ → ℕ → Bool
 smaller b D E = ltb (D + owedBy b E) (E + owedBy b D)
 
 -- a feed whose first piece has just come
-fresh : (T p : ℕ) → FeedInOrder 0 (record { position = p; period = suc T; work = p; offset = 0; lead = suc T; owes = p })
+fresh : (T p : ℕ) → FeedInOrder 0 (owing p (plain p (suc T) p 0))
 fresh T p =
     record {
-      offset = omega arith;
-      lead = omega arith;
-      short = le-refl _;
+      plan = record { offset = omega arith; lead = omega arith; short = le-refl _ };
       owes = le-refl _;
       early = λ h. absurd (omega arith);
-      over = λ h. absurd (omega (arith, since-lt (suc T) 0 0 (omega arith)));
+      over = λ h. absurd (omega (arith, since-lt (plain p (suc T) p 0 .plan) 0 (omega arith)));
     }
 
 module _ (work lead : ℕ) where
@@ -124,7 +123,7 @@ module _ (work lead : ℕ) where
         numbers = λ n. omega (arith, eq-le n 1);
       }
 
-  round : Round 12 (asked work lead .feeds)
+  round : Round 12 (plans (asked work lead .feeds))
   unfolding taking opened
   round =
       record {

@@ -7,17 +7,19 @@ use native.Mathlib.Nat.{le-refl}
 use native.Mathlib.Omega.{arith}
 use Rattle.lists.specs.Lists.{total}
 use Rattle.lists.proofs.Tests.{ltb-elim}
+use Rattle.ticks.specs.declared.Instant.{Instant}
+use Rattle.ticks.specs.Ticks.{earlierOf}
 use Rattle.jobs.specs.declared.Job.{Job}
 use Rattle.edf.proofs.Demand.{byThen-in, byThen-out}
 use Rattle.room.specs.Owed.{jobOwes}
-use Rattle.reasons.specs.Until.{earlier, Until}
+use Rattle.reasons.specs.Until.{Until}
 
 -- what stays as it is up to one instant stays so up to the earlier of it and another
-pub until-cut : (owed : ℕ → ℕ) (by x till : ℕ) → by < x → by < till → ((E : ℕ) → by ≤ E → E < x → owed E ≡ owed by)
-    → Until owed by till (earlier x till)
+pub until-cut : (owed : ℕ → ℕ) (by : ℕ) (x till : Instant) → by < x .0 → by < till .0 → ((E : ℕ) → by ≤ E → E < x .0 → owed E ≡ owed by)
+    → Until owed by (till .0) (earlierOf x till .0)
 until-cut owed by x till h k s =
-    ltb-elim (λ b. Until owed by till (cond b till x)) till x
-    (λ l. record { after = k; within = le-refl till; still = λ E p q. s E p (omega arith) })
+    ltb-elim (λ b. Until owed by (till .0) (cond b till x .0)) (till .0) (x .0)
+    (λ l. record { after = k; within = le-refl (till .0); still = λ E p q. s E p (omega arith) })
     (λ l. record { after = h; within = l; still = s })
 
 -- two debts that stay as they are, together

@@ -1,27 +1,26 @@
 -- Laws of the walk to the first overbooked instant or the tightest one.
 use mathlib.Core.Path.{_≡_, refl}
 use mathlib.Core.Bool.{cond}
-use mathlib.Core.List.{List}
 use Prim.Native.Nat.{ℕ, _+_, _-_, _≤_, _<_}
 use native.Mathlib.Nat.{le-refl}
 use native.Mathlib.Decide.{decLt}
 use native.Mathlib.Omega.{arith}
 use Rattle.lists.proofs.Tests.{ltb-elim}
 use Rattle.ticks.specs.declared.Instant.{Instant}
-use Rattle.feeds.specs.declared.Feed.{Feed}
+use Rattle.feeds.specs.Feeds.{inUse}
 use Rattle.feeds.specs.Round.{periods, roundOf}
-use Rattle.jobs.specs.declared.Job.{Job}
 use Rattle.edf.specs.Book.{Book}
 use Rattle.edf.specs.Owed.{owedBy, RoomBelow}
 use Rattle.edf.specs.Margin.{Overbooked, InTime, NoLarger, Smaller, FirstOverbooked, Tightest}
 use Rattle.edf.proofs.Horizon.{room-within-horizon}
 use Rattle.edf.proofs.Margin.{margin-within-horizon}
-use Rattle.ledger.specs.Reading.{bookOf}
-use Rattle.ledger.specs.InOrder.{InOrder}
-use Rattle.ledger.proofs.InOrder.{book-in-order, book-round}
-use Rattle.room.specs.Owed.{lastDue, horizonOf}
+use Rattle.ledger.specs.declared.Ledger.{Ledger}
+use Rattle.ledger.specs.State.{InOrder}
+use Rattle.ledger.specs.Books.{bookOf}
+use Rattle.ledger.proofs.InOrder.{state-in-order, book-round}
+use Rattle.room.specs.Ahead.{lastDue, horizonOf}
+use Rattle.room.proofs.Ahead.{last-beyond}
 use Rattle.reasons.specs.Until.{Until}
-use Rattle.room.proofs.Owed.{last-beyond}
 use Rattle.reasons.specs.declared.Debt.{Debt}
 use Rattle.reasons.specs.Reasons.{debtBy, tighter}
 
@@ -33,11 +32,6 @@ pub record Walked (b : Book) (best : Debt) (by : ℕ) : Type 0 where
   pub room : RoomBelow by b
   pub least : (E : ℕ) → b .clock < E → E < by → NoLarger b (best .at .0) E
   pub first : (E : ℕ) → b .clock < E → E < best .at .0 → Smaller b (best .at .0) E
-
--- the walk has an instant to look at
-pub horizon-ahead : (clock : Instant) (fs : List Feed) (js : List Job) → InOrder clock fs js → clock .0 < horizonOf clock fs js
-unfolding horizonOf
-horizon-ahead clock fs js o = omega (arith, last-beyond clock fs js .clock, book-round 1 fs (o .feeds) .positive)
 
 -- nothing lies between the clock and the instant after it
 pub walked-first : (b : Book) (by : Instant) → by .0 ≡ b .clock + 1 → Walked b (debtBy b by) (by .0)
@@ -105,19 +99,17 @@ tighter-before best next end h k =
     ltb-elim (λ t. cond t next best .at .0 < end) (next .at .0 + best .owed .0) (best .at .0 + next .owed .0) (λ l. k) (λ l. h)
 
 -- past the horizon the best is the best of all
-pub walked-done : (clock : Instant) (fs : List Feed) (js : List Job) (best : Debt) (by : ℕ) → InOrder clock fs js → horizonOf clock fs js < by
-    → Walked (bookOf clock fs js) best by
-    → Tightest (bookOf clock fs js) (best .at .0)
+pub walked-done : (l : Ledger) (best : Debt) (by : ℕ) → InOrder l → horizonOf l .0 < by → Walked (bookOf l) best by → Tightest (bookOf l) (best .at .0)
 unfolding RoomBelow horizonOf
-walked-done clock fs js best by o far w =
-    let b = bookOf clock fs js in
-    let order = book-in-order clock fs js o in
-    let round = book-round 1 fs (o .feeds) in
+walked-done l best by o far w =
+    let b = bookOf l in
+    let R = roundOf (periods (inUse (l .feeds))) in
+    let order = state-in-order l o in
+    let round = book-round 1 (inUse (l .feeds)) (o .feeds .passing) in
     record {
       after = w .after;
-      room = room-within-horizon b (roundOf (periods fs)) (lastDue clock fs js) order round (last-beyond clock fs js)
-          (λ D h k. w .room D h (omega arith));
-      least = margin-within-horizon b (roundOf (periods fs)) (lastDue clock fs js) (best .at .0) (owedBy b (best .at .0)) order round (last-beyond clock fs js)
+      room = room-within-horizon b R (lastDue l .0) order round (last-beyond l) (λ D h k. w .room D h (omega arith));
+      least = margin-within-horizon b R (lastDue l .0) (best .at .0) (owedBy b (best .at .0)) order round (last-beyond l)
           (λ E h k. w .least E h (omega arith));
       first = w .first;
     }

@@ -1,12 +1,6 @@
 -- The next instant at which something is due.
 use mathlib.Core.Path.{_≡_}
-use mathlib.Core.Bool.{cond}
 use Prim.Native.Nat.{ℕ, _≤_, _<_}
-use lib.Dec.{ltb}
-
--- the earlier of two instants
-abbrev pub earlier : ℕ → ℕ → ℕ
-earlier a b = cond (ltb b a) b a
 
 -- r comes after `by` and no later than `till`, and from `by` up to r nothing comes due: what is owed stays as it is
 pub record Until (owed : ℕ → ℕ) (by till r : ℕ) : Type 0 where

@@ -3,35 +3,28 @@ use feeds::Feed;
 use feeds::Feeds;
 use jobs::Job;
 use jobs::Table;
+use ledger::Ledger;
 use ticks::Instant;
 use ticks::Length;
 ghost use mathlib.Core.Path.{_≡_};
 ghost use Prim.Native.Nat.{_≤_, _<_};
 ghost use Rattle.lists.specs.Lists.{total, Each};
-ghost use Rattle.ticks.specs.Ticks.{instant};
-ghost use Rattle.feeds.specs.Feeds.{mostFeeds, FeedIn, live as liveFeeds};
-ghost use Rattle.jobs.specs.Jobs.{mostJobs, live as liveJobs};
+ghost use Rattle.feeds.specs.Feeds.{mostFeeds, FeedIn, inUse};
+ghost use Rattle.jobs.specs.Jobs.{mostJobs, live};
 ghost use Rattle.edf.specs.Owed.{owedBy};
-ghost use Rattle.ledger.specs.Reading.{bookOf};
-ghost use Rattle.room.specs.Owed.{Ordered, jobOwes, feedOwes, FeedOrdered, Reach};
-ghost use Rattle.reasons.specs.Until.{earlier, Until};
-
-fn earlier(one: Instant, other: Instant) -> Instant
-    ensures { λ r. ⌜ r ≡ instant (earlier (one .0) (other .0)) ⌝ }
-{
-    if other.0 < one.0 {
-        return other;
-    }
-    one
-}
+ghost use Rattle.ledger.specs.State.{InOrder};
+ghost use Rattle.ledger.specs.Books.{bookOf};
+ghost use Rattle.room.specs.Owed.{jobOwes, feedOwes, Reach};
+ghost use Rattle.reasons.specs.Until.{Until};
 
 // The deadline of a job that is not due yet.
 fn job_due_after(job: Job, by: Instant, till: Instant) -> Instant
     requires { ⌜ by .0 < till .0 ⌝ }
     ensures { λ r. ⌜ Until (λ D. jobOwes D job) (by .0) (till .0) (r .0) ⌝ }
 {
-    if by.0 < job.deadline.0 {
-        return earlier(job.deadline, till);
+    if job.deadline.is_after(by) {
+        let deadline = job.deadline;
+        return deadline.earlier_of(till);
     }
     till
 }
@@ -39,7 +32,7 @@ fn job_due_after(job: Job, by: Instant, till: Instant) -> Instant
 // The next deadline of the jobs.
 fn jobs_due_after(table: Table, by: Instant, till: Instant) -> Instant
     requires { ⌜ (table .count ≤ mostJobs) × (by .0 < till .0) ⌝ }
-    ensures { λ r. ⌜ Until (λ D. total (jobOwes D) (liveJobs table)) (by .0) (till .0) (r .0) ⌝ }
+    ensures { λ r. ⌜ Until (λ D. total (jobOwes D) (live table)) (by .0) (till .0) (r .0) ⌝ }
 {
     let count = table.count;
     let mut next = till;
@@ -54,18 +47,18 @@ fn feed_due_after(feed: Feed, clock: Instant, by: Instant, till: Instant) -> Ins
     requires { ⌜ FeedIn feed × Reach clock by × (by .0 < till .0) ⌝ }
     ensures { λ r. ⌜ Until (λ D. feedOwes (clock .0) D feed) (by .0) (till .0) (r .0) ⌝ }
 {
-    let due = room::first_due(feed, clock);
-    if by.0 < due.0 {
-        return earlier(due, till);
+    let due = feed.plan.due(clock);
+    if due.is_after(by) {
+        return due.earlier_of(till);
     }
-    let gone = by.less(due).0 % feed.period.0;
-    earlier(by.plus(Length(feed.period.0 - gone)), till)
+    let over = Length(by.ticks_since(due).0 % feed.plan.period.0);
+    by.plus(feed.plan.period.less(over)).earlier_of(till)
 }
 
 // The next deadline of the feeds' pieces.
 fn feeds_due_after(feeds: Feeds, clock: Instant, by: Instant, till: Instant) -> Instant
-    requires { ⌜ (feeds .count ≤ mostFeeds) × Each (FeedOrdered clock) (liveFeeds feeds) × Reach clock by × (by .0 < till .0) ⌝ }
-    ensures { λ r. ⌜ Until (λ D. total (feedOwes (clock .0) D) (liveFeeds feeds)) (by .0) (till .0) (r .0) ⌝ }
+    requires { ⌜ (feeds .count ≤ mostFeeds) × Each FeedIn (inUse feeds) × Reach clock by × (by .0 < till .0) ⌝ }
+    ensures { λ r. ⌜ Until (λ D. total (feedOwes (clock .0) D) (inUse feeds)) (by .0) (till .0) (r .0) ⌝ }
 {
     let count = feeds.count;
     let mut next = till;
@@ -76,9 +69,14 @@ fn feeds_due_after(feeds: Feeds, clock: Instant, by: Instant, till: Instant) -> 
 }
 
 // The next instant at which something is due, or the last that is of interest.
-pub fn next_due(clock: Instant, feeds: Feeds, table: Table, by: Instant, till: Instant) -> Instant
-    requires { ⌜ Ordered clock feeds table × Reach clock by × (by .0 < till .0) ⌝ }
-    ensures { λ r. ⌜ Until (owedBy (bookOf clock (liveFeeds feeds) (liveJobs table))) (by .0) (till .0) (r .0) ⌝ }
+pub fn next_due(ledger: Ledger, by: Instant, till: Instant) -> Instant
+    requires { ⌜ InOrder ledger × Reach (ledger .clock) by × (by .0 < till .0) ⌝ }
+    ensures { λ r. ⌜ Until (owedBy (bookOf ledger)) (by .0) (till .0) (r .0) ⌝ }
 {
-    feeds_due_after(feeds, clock, by, jobs_due_after(table, by, till))
+    feeds_due_after(
+        ledger.feeds,
+        ledger.clock,
+        by,
+        jobs_due_after(ledger.table, by, till),
+    )
 }

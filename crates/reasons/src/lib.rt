@@ -1,19 +1,17 @@
 // What a customer is told of a request: the earliest instant at which more is owed than there is time, or the one with the
 // smallest margin; who owes how much by then; and the margin there.
 // It must not know refusals, nor the step.
-use feeds::Feeds;
 use jobs::Job;
-use jobs::Table;
+use ledger::Ledger;
 use ticks::Instant;
 use ticks::Length;
 ghost use mathlib.Core.Path.{_≡_};
 ghost use Prim.Native.Nat.{_+_, _≤_, _<_, _^_};
 ghost use lib.IntN.{pos, _-ℤ_};
-ghost use Rattle.feeds.specs.Feeds.{live as liveFeeds};
-ghost use Rattle.jobs.specs.Jobs.{live as liveJobs};
-ghost use Rattle.ledger.specs.Reading.{bookOf};
-ghost use Rattle.room.specs.Owed.{Ordered, Modest, Reach};
-ghost use Rattle.reasons.specs.Reasons.{debtBy, tighter, Tells, reasonAt};
+ghost use Rattle.ledger.specs.State.{InOrder};
+ghost use Rattle.ledger.specs.Books.{bookOf};
+ghost use Rattle.room.specs.Owed.{Modest, Reach};
+ghost use Rattle.reasons.specs.Reasons.{debtBy, tighter, Tells, noReason, nearReason, reasonAt};
 
 mod due;
 
@@ -23,13 +21,13 @@ pub struct Debt {
     pub owed: Length,
 }
 
-fn debt_by(clock: Instant, feeds: Feeds, table: Table, by: Instant) -> Debt
-    requires { ⌜ Ordered clock feeds table × Reach clock by ⌝ }
-    ensures { λ r. ⌜ r ≡ debtBy (bookOf clock (liveFeeds feeds) (liveJobs table)) by ⌝ }
+fn debt_by(ledger: Ledger, by: Instant) -> Debt
+    requires { ⌜ InOrder ledger × Reach (ledger .clock) by ⌝ }
+    ensures { λ r. ⌜ r ≡ debtBy (bookOf ledger) by ⌝ }
 {
     Debt {
         at: by,
-        owed: room::owed_by(clock, feeds, table, by),
+        owed: room::owed_by(ledger, by),
     }
 }
 
@@ -38,7 +36,7 @@ fn tighter(best: Debt, next: Debt) -> Debt
     requires { ⌜ (next .at .0 + best .owed .0 < 2 ^ 64) × (best .at .0 + next .owed .0 < 2 ^ 64) ⌝ }
     ensures { λ r. ⌜ r ≡ tighter best next ⌝ }
 {
-    if next.at.0 + best.owed.0 < best.at.0 + next.owed.0 {
+    if best.at.plus(next.owed).is_after(next.at.plus(best.owed)) {
         return next;
     }
     best
@@ -46,20 +44,21 @@ fn tighter(best: Debt, next: Debt) -> Debt
 
 // The walk: up from the instant after the clock over those at which something is due, as far as the horizon and no
 // further than the first that is overbooked. In between nothing more is owed while the margin grows.
-pub fn tightest(clock: Instant, feeds: Feeds, table: Table) -> Debt
-    requires { ⌜ Ordered clock feeds table ⌝ }
-    ensures { λ r. ⌜ Tells clock (bookOf clock (liveFeeds feeds) (liveJobs table)) r ⌝ }
+pub fn tightest(ledger: Ledger) -> Debt
+    requires { ⌜ InOrder ledger ⌝ }
+    ensures { λ r. ⌜ Tells (ledger .clock) (bookOf ledger) r ⌝ }
 {
-    let end = room::horizon(clock, feeds, table).plus(Length(1));
-    let mut by = clock.plus(Length(1));
-    let mut best = debt_by(clock, feeds, table, by);
-    while by.0 < end.0 {
-        let next = debt_by(clock, feeds, table, by);
-        if by.less(clock).0 < next.owed.0 {
+    let clock = ledger.clock;
+    let end = room::horizon(ledger).next();
+    let mut by = clock.next();
+    let mut best = debt_by(ledger, by);
+    while end.is_after(by) {
+        let next = debt_by(ledger, by);
+        if next.owed.is_longer(by.ticks_since(clock)) {
             return next;
         }
         best = tighter(best, next);
-        by = due::next_due(clock, feeds, table, by, end);
+        by = due::next_due(ledger, by, end);
     }
     best
 }
@@ -82,18 +81,47 @@ pub struct Reason {
     pub margin: i64,
 }
 
-pub fn reason_at(clock: Instant, feeds: Feeds, table: Table, job: Job, at: Instant) -> Reason
-    requires { ⌜ Ordered clock feeds table × Modest job × Reach clock at × (clock .0 ≤ at .0) ⌝ }
-    ensures { λ r. ⌜ r ≡ reasonAt clock (liveFeeds feeds) (liveJobs table) job at ⌝ }
+impl Reason {
+    // Nothing to tell.
+    pub fn none() -> Reason
+        ensures { λ r. ⌜ r ≡ noReason ⌝ }
+    {
+        Reason {
+            at: Instant::FIRST,
+            jobs: Length::NONE,
+            feeds: Length::NONE,
+            job: Length::NONE,
+            margin: 0,
+        }
+    }
+
+    // How near a request comes that would be taken.
+    pub fn near(at: Instant, margin: i64) -> Reason
+        ensures { λ r. ⌜ r ≡ nearReason at margin ⌝ }
+    {
+        Reason {
+            at,
+            jobs: Length::NONE,
+            feeds: Length::NONE,
+            job: Length::NONE,
+            margin,
+        }
+    }
+}
+
+pub fn reason_at(ledger: Ledger, job: Job, at: Instant) -> Reason
+    requires { ⌜ InOrder ledger × Modest job × Reach (ledger .clock) at × (ledger .clock .0 ≤ at .0) ⌝ }
+    ensures { λ r. ⌜ r ≡ reasonAt ledger job at ⌝ }
 {
-    let jobs = room::jobs_owe(table, at);
-    let printers = room::feeds_owe(feeds, clock, at);
+    let clock = ledger.clock;
+    let jobs = room::jobs_owe(ledger.table, at);
+    let printers = room::feeds_owe(ledger.feeds, clock, at);
     let asked = room::job_owes(job, at);
     Reason {
         at,
         jobs: Length(jobs),
         feeds: Length(printers),
         job: Length(asked),
-        margin: margin(at.less(clock), Length(jobs + printers + asked)),
+        margin: margin(at.ticks_since(clock), Length(jobs + printers + asked)),
     }
 }

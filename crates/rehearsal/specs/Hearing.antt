@@ -12,24 +12,24 @@ use Rattle.desk.specs.declared.Answer.{Answer}
 use Rattle.desk.specs.Asking.{Asked}
 use Rattle.sayings.specs.declared.Said.{Said}
 use Rattle.rehearsal.specs.declared.Session.{Session}
-use Rattle.rehearsal.specs.declared.Turn.{Turn}
+use Rattle.rehearsal.specs.declared.Reply.{Reply}
 use Rattle.rehearsal.specs.declared.Place.{Place}
 use Rattle.rehearsal.specs.declared.Read.{Read}
 use Rattle.rehearsal.specs.Session.{badOf, feedOf, goOf, endOf, restOf, runOf, callOf}
 
--- the turn tells an answer of the desk's ask
-pub record Told (s : Session) (number work lead : ℕ) (r : Turn) : Type 0 where
+-- the reply tells an answer of the desk's ask
+pub record Told (s : Session) (number work lead : ℕ) (r : Reply) : Type 0 where
   pub answer : Answer
   pub asked : Asked (s .desk) number work lead answer
   pub told : r ≡ callOf s (Said.Ask number) answer
 
 -- `ask`: only after `go`
-pub record AskOf (s : Session) (line number work lead : ℕ) (r : Turn) : Type 0 where
+pub record AskOf (s : Session) (line number work lead : ℕ) (r : Reply) : Type 0 where
   pub early : s .opened ≡ false → r ≡ badOf s line
   pub after : s .opened ≡ true → Told s number work lead r
 
 -- what a line answers by what it means
-unfoldable pub Heard : Session → ℕ → Line → Turn → Type 0
+unfoldable pub Heard : Session → ℕ → Line → Reply → Type 0
 Heard s line (Line.Feed period work offset) r = r ≡ feedOf s line period work offset
 Heard s line (Line.Go start) r = r ≡ goOf s line start
 Heard s line (Line.Ask number work lead) r = AskOf s line number work lead r
@@ -41,9 +41,9 @@ Heard s line Line.Bad r = r ≡ badOf s line
 -- the next line ends before the first newline; without one it is bad, and nothing is left to read
 unfoldable pub HeardTo : Session → List ℕ → Place → Found → Read → Type 0
 HeardTo s input p (Found.At end) r =
-    Heard s (p .lines + 1) (lineOf (take (end - p .from) (drop (p .from) input))) (r .turn)
+    Heard s (p .lines + 1) (lineOf (take (end - p .from) (drop (p .from) input))) (r .reply)
     × (r .place .from ≡ end + 1)
-HeardTo s input p Found.Nothing r = (r .turn ≡ badOf s (p .lines + 1)) × (r .place .from ≡ length input)
+HeardTo s input p Found.Nothing r = (r .reply ≡ badOf s (p .lines + 1)) × (r .place .from ≡ length input)
 
 -- what the next line of the input answers, and the place after it
 pub record Answers (s : Session) (input : List ℕ) (p : Place) (r : Read) : Type 0 where

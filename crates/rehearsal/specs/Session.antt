@@ -6,16 +6,16 @@ use lib.ListN.{take, set, replicate}
 use Rattle.desk.specs.declared.Desk.{Desk}
 use Rattle.desk.specs.declared.Answer.{Answer}
 use Rattle.desk.specs.declared.Stepped.{Stepped}
-use Rattle.desk.specs.declared.Ran.{Ran}
-use Rattle.desk.specs.declared.Ran.the-variants as ran
-use Rattle.refusals.specs.declared.Refusal.{Refusal}
-use Rattle.refusals.specs.Refusals.{numberOf, answerOf}
+use Rattle.answers.specs.declared.Who.{Who}
+use Rattle.answers.specs.declared.Who.the-variants as who
+use Rattle.answers.specs.Answers.{answerOf, onYes}
+use Rattle.feeds.specs.Feeds.{numbersAFeed}
 use Rattle.desk.specs.State.{empty}
 use Rattle.desk.specs.Opening.{openedOf}
 use Rattle.desk.specs.Calls as desk
 use Rattle.sayings.specs.declared.Said.{Said}
 use Rattle.rehearsal.specs.declared.Session.{Session}
-use Rattle.rehearsal.specs.declared.Turn.{Turn}
+use Rattle.rehearsal.specs.declared.Reply.{Reply}
 
 -- at most so many feed lines
 abbrev pub mostFeedLines : ℕ
@@ -23,7 +23,7 @@ mostFeedLines = 17
 
 -- a session that has heard nothing
 abbrev pub begun : Session
-begun = record { desk = empty; list = replicate 51 0; feeds = 0; opened = false; over = false; left = 0 }
+begun = record { desk = empty; list = replicate (numbersAFeed * mostFeedLines) 0; feeds = 0; opened = false; over = false; left = 0 }
 
 -- the session with another desk
 abbrev pub withDesk : Session → Desk → Session
@@ -35,13 +35,13 @@ abbrev pub withLeft : Session → ℕ → Session
 withLeft s n =
     record { desk = s .desk; list = s .list; feeds = s .feeds; opened = s .opened; over = s .over; left = n }
 
-abbrev pub turn : Session → Said → Turn
-turn s said = record { session = s; said = said }
+abbrev pub reply : Session → Said → Reply
+reply s said = record { session = s; said = said }
 
 -- a bad line ends the rehearsal
-abbrev pub badOf : Session → ℕ → Turn
+abbrev pub badOf : Session → ℕ → Reply
 badOf s line =
-    turn
+    reply
     (record { desk = s .desk; list = s .list; feeds = s .feeds; opened = s .opened; over = true; left = s .left })
     (Said.Bad line)
 
@@ -50,7 +50,7 @@ abbrev pub fed : Session → ℕ → ℕ → ℕ → Session
 fed s period work offset =
     record {
       desk = s .desk;
-      list = set (set (set (s .list) (3 * s .feeds) period) (3 * s .feeds + 1) work) (3 * s .feeds + 2) offset;
+      list = set (set (set (s .list) (numbersAFeed * s .feeds) period) (numbersAFeed * s .feeds + 1) work) (numbersAFeed * s .feeds + 2) offset;
       feeds = s .feeds + 1;
       opened = s .opened;
       over = s .over;
@@ -58,9 +58,9 @@ fed s period work offset =
     }
 
 -- `feed`: only before `go`, and at most 17 of them
-unfoldable pub feedOf : Session → ℕ → ℕ → ℕ → ℕ → Turn
+unfoldable pub feedOf : Session → ℕ → ℕ → ℕ → ℕ → Reply
 feedOf s line period work offset =
-    cond (s .opened || leb mostFeedLines (s .feeds)) (badOf s line) (turn (fed s period work offset) Said.Nothing)
+    cond (s .opened || leb mostFeedLines (s .feeds)) (badOf s line) (reply (fed s period work offset) Said.Nothing)
 
 -- the session after an opening: it is over where the opening is refused
 abbrev pub gone : Session → Answer → Session
@@ -74,43 +74,44 @@ gone s a =
       left = s .left;
     }
 
-abbrev pub goneOf : Session → Answer → Turn
-goneOf s a = turn (gone s a) (Said.Go (answerOf (a .verdict)))
+abbrev pub goneOf : Session → Answer → Reply
+goneOf s a = reply (gone s a) (Said.Go (answerOf (a .verdict)))
 
 -- `go`: only once, with the feeds heard so far
-unfoldable pub goOf : Session → ℕ → ℕ → Turn
+unfoldable pub goOf : Session → ℕ → ℕ → Reply
 goOf s line start =
-    cond (s .opened || ltb mostFeedLines (s .feeds)) (badOf s line) (goneOf s (openedOf (take (3 * s .feeds) (s .list)) start))
+    cond (s .opened || ltb mostFeedLines (s .feeds)) (badOf s line) (goneOf s (openedOf (take (numbersAFeed * s .feeds) (s .list)) start))
 
 -- a call after `go`: the desk that it hands back, and its answer
-abbrev pub callOf : Session → (ℕ → Said) → Answer → Turn
-callOf s said a = turn (withDesk s (a .desk)) (said (answerOf (a .verdict)))
+abbrev pub callOf : Session → (ℕ → Said) → Answer → Reply
+callOf s said a = reply (withDesk s (a .desk)) (said (answerOf (a .verdict)))
 
-unfoldable pub endOf : Session → ℕ → ℕ → Turn
+unfoldable pub endOf : Session → ℕ → ℕ → Reply
 endOf s line number = cond (s .opened) (callOf s Said.End (desk.endOf (s .desk) number)) (badOf s line)
 
-unfoldable pub restOf : Session → ℕ → ℕ → Turn
+unfoldable pub restOf : Session → ℕ → ℕ → Reply
 restOf s line position = cond (s .opened) (callOf s Said.Rest (desk.restOf (s .desk) position)) (badOf s line)
 
 -- `run` says nothing itself
-unfoldable pub runOf : Session → ℕ → ℕ → Turn
-runOf s line ticks = cond (s .opened) (turn (withLeft s ticks) Said.Nothing) (badOf s line)
+unfoldable pub runOf : Session → ℕ → ℕ → Reply
+runOf s line ticks = cond (s .opened) (reply (withLeft s ticks) Said.Nothing) (badOf s line)
 
 -- a refused step ends its run
-abbrev pub stoppedOf : Session → Refusal → Turn
-stoppedOf s r = turn (withLeft s 0) (Said.Stopped (numberOf r))
+abbrev pub stoppedOf : Session → ℕ → Reply
+stoppedOf s refusal = reply (withLeft s 0) (Said.Stopped refusal)
 
--- what a tick at an instant says
-abbrev pub ranOf : Session → ℕ → Ran → Turn
-ranOf s instant (ran.Job number owes) = turn s (Said.Job instant number)
-ranOf s instant (ran.Feed position owes) = turn s (Said.Feed instant position)
-ranOf s instant ran.Idle = turn s (Said.Idle instant)
-ranOf s instant (ran.No r) = stoppedOf s r
+-- whom a tick at an instant goes to
+abbrev pub saidOf : ℕ → Who → Said
+saidOf instant (who.Job number) = Said.Job instant number
+saidOf instant (who.Feed position) = Said.Feed instant position
+saidOf instant who.Idle = Said.Idle instant
 
--- a tick of a run by what the desk's step hands back
-abbrev pub steppedOf : Session → Stepped → Turn
-steppedOf s x = ranOf (withLeft (withDesk s (x .desk)) (s .left - 1)) (s .desk .clock .0) (x .ran)
+-- a tick of a run by what the desk's step hands back; a refused step ends its run
+abbrev pub steppedOf : Session → Stepped → Reply
+steppedOf s x =
+    onYes (x .verdict) (reply (withLeft (withDesk s (x .desk)) (s .left - 1)) (saidOf (s .desk .ledger .clock .0) (x .who)))
+    (stoppedOf s (answerOf (x .verdict)))
 
 -- one tick of a run: its instant and whom the step names
-unfoldable pub tickOf : Session → Turn
+unfoldable pub tickOf : Session → Reply
 tickOf s = steppedOf s (desk.stepOf (s .desk))

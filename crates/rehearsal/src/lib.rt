@@ -1,24 +1,23 @@
 // The rehearsal: a session over the desk that hears one line after another and tells what each answers.
 // It must not know input and output, nor the words of an answer: the text is lent to it, and the words are the sayings'.
+use answers::Who;
 use desk::Desk;
-use refusals::Refusal;
+use feeds::Feed;
 use sayings::Said;
-use serving::Who;
-use ticks::Instant;
 use words::Found;
 use words::Line;
 ghost use mathlib.Core.Path.{_≡_};
 ghost use Prim.Native.Nat.{_≤_, _<_, _^_};
 ghost use lib.ListN.{length};
 ghost use Rattle.desk.specs.State.{Good};
-ghost use Rattle.rehearsal.specs.Session.{begun, badOf, feedOf, goOf, endOf, restOf, runOf, tickOf, stoppedOf};
+ghost use Rattle.rehearsal.specs.Session.{begun, badOf, feedOf, goOf, endOf, restOf, runOf, saidOf, tickOf, stoppedOf};
 ghost use Rattle.rehearsal.specs.Hearing.{AskOf, Heard, Answers};
 
 // What was heard so far: the desk, the numbers of the feed lines, whether the desk is open, whether the rehearsal is
 // over, and how many ticks of a run are left.
 pub struct Session {
     pub desk: Desk,
-    pub list: [u32; 51],
+    pub list: [u32; Feed::NUMBERS * Session::FEEDS],
     pub feeds: usize,
     pub opened: bool,
     pub over: bool,
@@ -26,7 +25,7 @@ pub struct Session {
 }
 
 // The session after a line or a tick, and what is said.
-pub struct Turn {
+pub struct Reply {
     pub session: Session,
     pub said: Said,
 }
@@ -39,13 +38,24 @@ pub struct Place {
 
 impl Place {
     // The rehearsal's own limit on the bytes of its input.
-    pub const MOST: usize = 0x1_0000;
+    pub const MOST: usize = 65536; // bytes
 }
 
-// A turn, and where it left the input.
+// A reply, and where it left the input.
 pub struct Read {
-    pub turn: Turn,
+    pub reply: Reply,
     pub place: Place,
+}
+
+// Whom a tick at an instant goes to.
+fn named(instant: u64, who: Who) -> Said
+    ensures { λ r. ⌜ r ≡ saidOf instant who ⌝ }
+{
+    match who {
+        Who::Job(number) => Said::Job(instant, number),
+        Who::Feed(position) => Said::Feed(instant, position),
+        Who::Idle => Said::Idle(instant),
+    }
 }
 
 impl Session {
@@ -58,7 +68,7 @@ impl Session {
     {
         Session {
             desk: Desk::none(),
-            list: [0; 51],
+            list: [0; Feed::NUMBERS * Session::FEEDS],
             feeds: 0,
             opened: false,
             over: false,
@@ -67,18 +77,18 @@ impl Session {
     }
 
     // A bad line ends the rehearsal.
-    fn bad(self, line: usize) -> Turn
+    fn bad(self, line: usize) -> Reply
         ensures { λ r. ⌜ r ≡ badOf self line ⌝ }
     {
         let mut session = self;
         session.over = true;
-        Turn {
+        Reply {
             session,
             said: Said::Bad(line),
         }
     }
 
-    fn feed(self, line: usize, period: u32, work: u32, offset: u32) -> Turn
+    fn feed(self, line: usize, period: u32, work: u32, offset: u32) -> Reply
         ensures { λ r. ⌜ r ≡ feedOf self line period work offset ⌝ }
     {
         if self.opened {
@@ -87,19 +97,19 @@ impl Session {
         if Session::FEEDS <= self.feeds {
             return self.bad(line);
         }
-        let at = 3 * self.feeds;
+        let at = Feed::NUMBERS * self.feeds;
         let mut session = self;
         session.list[at] = period;
         session.list[at + 1] = work;
         session.list[at + 2] = offset;
         session.feeds = self.feeds + 1;
-        Turn {
+        Reply {
             session,
             said: Said::Nothing,
         }
     }
 
-    fn go(self, line: usize, start: u64) -> Turn
+    fn go(self, line: usize, start: u64) -> Reply
         ensures { λ r. ⌜ r ≡ goOf self line start ⌝ }
     {
         if self.opened {
@@ -109,7 +119,7 @@ impl Session {
             return self.bad(line);
         }
         let list = self.list;
-        let numbers = 3 * self.feeds;
+        let numbers = Feed::NUMBERS * self.feeds;
         let answer = Desk::open(&list[..numbers], start);
         let desk = answer.desk;
         let verdict = answer.verdict;
@@ -118,13 +128,13 @@ impl Session {
         session.desk = desk;
         session.opened = true;
         session.over = number != 0;
-        Turn {
+        Reply {
             session,
             said: Said::Go(number),
         }
     }
 
-    fn ask(self, line: usize, number: u32, work: u32, lead: u32) -> Turn
+    fn ask(self, line: usize, number: u32, work: u32, lead: u32) -> Reply
         ensures { λ r. ⌜ AskOf self line number work lead r ⌝ }
     {
         if !self.opened {
@@ -136,13 +146,13 @@ impl Session {
         let refusal = verdict.answer();
         let mut session = self;
         session.desk = desk;
-        Turn {
+        Reply {
             session,
             said: Said::Ask(number, refusal),
         }
     }
 
-    fn end(self, line: usize, number: u32) -> Turn
+    fn end(self, line: usize, number: u32) -> Reply
         ensures { λ r. ⌜ r ≡ endOf self line number ⌝ }
     {
         if !self.opened {
@@ -154,13 +164,13 @@ impl Session {
         let refusal = verdict.answer();
         let mut session = self;
         session.desk = desk;
-        Turn {
+        Reply {
             session,
             said: Said::End(refusal),
         }
     }
 
-    fn rest(self, line: usize, position: u32) -> Turn
+    fn rest(self, line: usize, position: u32) -> Reply
         ensures { λ r. ⌜ r ≡ restOf self line position ⌝ }
     {
         if !self.opened {
@@ -172,14 +182,14 @@ impl Session {
         let refusal = verdict.answer();
         let mut session = self;
         session.desk = desk;
-        Turn {
+        Reply {
             session,
             said: Said::Rest(refusal),
         }
     }
 
-    // A run is only begun here: its ticks are turns of their own.
-    fn run(self, line: usize, ticks: u32) -> Turn
+    // A run is only begun here: each of its ticks has a reply of its own.
+    fn run(self, line: usize, ticks: u32) -> Reply
         ensures { λ r. ⌜ r ≡ runOf self line ticks ⌝ }
     {
         if !self.opened {
@@ -187,14 +197,14 @@ impl Session {
         }
         let mut session = self;
         session.left = ticks;
-        Turn {
+        Reply {
             session,
             said: Said::Nothing,
         }
     }
 
     // What a line answers; `line` is its number, counted from 1.
-    pub fn hear(self, line: usize, means: Line) -> Turn
+    pub fn hear(self, line: usize, means: Line) -> Reply
         ensures { λ r. ⌜ Heard self line means r ⌝ }
     {
         match means {
@@ -210,55 +220,37 @@ impl Session {
 
     // One tick of the run that is under way. Every state from an opening onward is good, so its order is not checked
     // again at each tick.
-    pub fn tick(self) -> Turn
+    pub fn tick(self) -> Reply
         requires { ⌜ (0 < self .left) × Good (self .desk) ⌝ }
         ensures { λ r. ⌜ r ≡ tickOf self ⌝ }
     {
-        let at = self.desk.clock;
-        let last = Instant::last();
-        if !last.is_after(at) {
-            return self.stopped(Refusal::PastLast);
+        let instant = self.desk.ledger.clock.0;
+        let stepped = serving::step(self.desk.ledger);
+        let ledger = stepped.ledger;
+        let verdict = stepped.verdict;
+        let who = stepped.who;
+        if !verdict.is_yes() {
+            return self.stopped(verdict.answer());
         }
-        let instant = at.0;
-        let ticked = serving::tick(at, self.desk.feeds, self.desk.table);
-        let clock = ticked.clock;
-        let feeds = ticked.feeds;
-        let table = ticked.table;
-        let named = ticked.named;
-        let who = named.who;
-        let desk = Desk {
-            clock,
-            feeds,
-            table,
-        };
+        let desk = self.desk.with(ledger);
         let mut session = self;
         session.desk = desk;
         session.left = self.left - 1;
-        match who {
-            Who::Job(number) => Turn {
-                session,
-                said: Said::Job(instant, number),
-            },
-            Who::Feed(position) => Turn {
-                session,
-                said: Said::Feed(instant, position),
-            },
-            Who::Idle => Turn {
-                session,
-                said: Said::Idle(instant),
-            },
+        Reply {
+            session,
+            said: named(instant, who),
         }
     }
 
     // A refused step ends its run.
-    fn stopped(self, refusal: Refusal) -> Turn
+    fn stopped(self, refusal: u32) -> Reply
         ensures { λ r. ⌜ r ≡ stoppedOf self refusal ⌝ }
     {
         let mut session = self;
         session.left = 0;
-        Turn {
+        Reply {
             session,
-            said: Said::Stopped(refusal.number()),
+            said: Said::Stopped(refusal),
         }
     }
 
@@ -273,7 +265,7 @@ impl Session {
             Found::At(end) => {
                 let next = end + 1;
                 Read {
-                    turn: self.hear(line, words::read_line(&input[from..end])),
+                    reply: self.hear(line, words::read_line(&input[from..end])),
                     place: Place {
                         from: next,
                         lines: line,
@@ -281,7 +273,7 @@ impl Session {
                 }
             }
             Found::Nothing => Read {
-                turn: self.bad(line),
+                reply: self.bad(line),
                 place: Place {
                     from: input.len(),
                     lines: line,

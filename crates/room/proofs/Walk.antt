@@ -1,26 +1,24 @@
 -- Laws of the walk back from the horizon.
 use mathlib.Core.Path.{_≡_, refl}
 use mathlib.Core.Bool.{Bool, true, false}
-use mathlib.Core.List.{List}
 use Prim.Native.Nat.{ℕ, suc, _+_, _-_, _≤_, _<_}
 use native.Mathlib.Decide.{decLe, decLt}
 use native.Mathlib.Omega.{arith}
-use Rattle.ticks.specs.declared.Instant.{Instant}
-use Rattle.feeds.specs.declared.Feed.{Feed}
+use Rattle.feeds.specs.Feeds.{inUse}
 use Rattle.feeds.specs.Round.{periods, roundOf}
-use Rattle.jobs.specs.declared.Job.{Job}
 use Rattle.edf.specs.Book.{Book}
 use Rattle.edf.specs.Owed.{owedBy, Room, RoomBelow}
 use Rattle.edf.specs.Order.{InOrder as BookInOrder}
 use Rattle.edf.proofs.Sound.{owedBy-past}
 use Rattle.edf.proofs.Horizon.{room-jumps, room-within-horizon}
 use Rattle.edf.proofs.Equality.{fits-iff-room}
-use Rattle.ledger.specs.Reading.{bookOf}
-use Rattle.ledger.specs.InOrder.{InOrder}
-use Rattle.ledger.proofs.InOrder.{book-in-order, book-light, book-round}
-use Rattle.room.specs.Owed.{lastDue, horizonOf}
+use Rattle.ledger.specs.declared.Ledger.{Ledger}
+use Rattle.ledger.specs.State.{InOrder}
+use Rattle.ledger.specs.Books.{bookOf}
+use Rattle.ledger.proofs.InOrder.{state-in-order, state-light, book-round}
+use Rattle.room.specs.Ahead.{lastDue, horizonOf}
 use Rattle.room.specs.Walk.{RoomFrom, RoomSays, FitsSays}
-use Rattle.room.proofs.Owed.{last-beyond}
+use Rattle.room.proofs.Ahead.{last-beyond}
 
 -- nothing lies between the horizon and itself
 pub room-last : (b : Book) (H : ℕ) → RoomFrom H H b
@@ -51,17 +49,15 @@ room-stops b by H o c h k near = go (decLt (b .clock) by)
     go (no p) = omega (arith, owedBy-past b by o (omega arith))
 
 -- LINE 6: room below the horizon is what fits means, in both directions
-pub fits-says : (clock : Instant) (fs : List Feed) (js : List Job) (r : Bool) → InOrder clock fs js
-    → RoomSays r (horizonOf clock fs js) (bookOf clock fs js)
-    → FitsSays r (bookOf clock fs js)
+pub fits-says : (l : Ledger) (r : Bool) → InOrder l → RoomSays r (horizonOf l .0) (bookOf l) → FitsSays r (bookOf l)
 unfolding Room RoomBelow horizonOf
-fits-says clock fs js r o s =
-    let b = bookOf clock fs js in
-    let order = book-in-order clock fs js o in
-    let same = fits-iff-room b order (book-light 1 fs (o .feeds)) in
+fits-says l r o s =
+    let b = bookOf l in
+    let order = state-in-order l o in
+    let same = fits-iff-room b order (state-light l o) in
+    let round = book-round 1 (inUse (l .feeds)) (o .feeds .passing) in
     record {
-      yes = λ e. same .1
-          (room-within-horizon b (roundOf (periods fs)) (lastDue clock fs js) order (book-round 1 fs (o .feeds)) (last-beyond clock fs js) (s .yes e));
+      yes = λ e. same .1 (room-within-horizon b (roundOf (periods (inUse (l .feeds)))) (lastDue l .0) order round (last-beyond l) (s .yes e));
       no = λ e fit. s .no e (λ D h k. same .0 fit D h);
     }
 

@@ -1,5 +1,5 @@
 -- The foremost piece that the code finds is the runner of the book.
-use mathlib.Core.Path.{_≡_, refl, ap, _∙_}
+use mathlib.Core.Path.{_≡_, refl, sym, ap, _∙_}
 use mathlib.Core.Bool.{Bool, true, false, cond, _&&_, _||_}
 use mathlib.Core.List.{List, [], _∷_, _++_, map}
 use Prim.Native.Nat.{ℕ, suc}
@@ -7,16 +7,13 @@ use lib.Dec.{ltb, leb, eqb}
 use Rattle.ticks.specs.declared.Instant.{Instant}
 use Rattle.feeds.specs.declared.Feed.{Feed}
 use Rattle.jobs.specs.declared.Job.{Job}
-use Rattle.edf.specs.Book as edf
+use Rattle.edf.specs.Book.{Book}
 use Rattle.edf.specs.Pieces.{Piece as BookPiece, jobPiece, currentPiece}
 use Rattle.edf.specs.Step.{kind, numberOf, first, sooner, goesBefore, foremost, runner}
-use Rattle.ledger.specs.Reading.{bookFeeds, bookJob, bookOf}
-use Rattle.serving.specs.Front.{whoOf, whoIs, frontOf, pieceOf, aheadOf, nobodyFront, jobFront, feedFront, foremostOver, jobFronts, feedFronts}
-
-pub who-back : (w : edf.Who) → whoOf (whoIs w) ≡ w
-who-back (edf.job n) = refl
-who-back (edf.feed p) = refl
-who-back edf.idle = refl
+use Rattle.ledger.specs.Books.{bookFeeds, bookJob, bookAt, whoOf}
+use Rattle.ledger.proofs.Books.{who-back}
+use Rattle.serving.specs.declared.Piece.{Piece}
+use Rattle.serving.specs.Front.{frontOf, pieceOf, firstOfTwo, nobodyFront, jobFront, feedFront, foremostOver, jobFronts, feedFronts}
 
 -- who goes first does not turn on from when on a piece is ready
 goes-alike : (p q : BookPiece) → goesBefore (pieceOf (frontOf p)) (pieceOf (frontOf q)) ≡ goesBefore p q
@@ -36,7 +33,7 @@ over-is : (ps qs : List BookPiece) → foremostOver (map frontOf ps) (frontOf (f
 unfolding foremostOver foremost
 over-is [] qs = refl
 over-is (p ∷ ps) qs =
-    ap (aheadOf (frontOf p)) (over-is ps qs)
+    ap (firstOfTwo (frontOf p)) (over-is ps qs)
     ∙ ap (λ b. cond b (frontOf p) (frontOf (foremost (ps ++ qs)))) (goes-alike p (foremost (ps ++ qs)))
     ∙ front-cond (goesBefore p (foremost (ps ++ qs))) p (foremost (ps ++ qs))
 
@@ -63,8 +60,12 @@ feeds-foremost t k fs =
 
 -- THE RUNNER
 pub foremost-is-runner : (t : Instant) (fs : List Feed) (js : List Job)
-    → foremostOver (jobFronts js) (foremostOver (feedFronts t 1 fs) nobodyFront) ≡ frontOf (runner (bookOf t fs js))
+    → foremostOver (jobFronts js) (foremostOver (feedFronts t 1 fs) nobodyFront) ≡ frontOf (runner (bookAt t fs js))
 unfolding runner
 foremost-is-runner t fs js =
     (λ i. foremostOver (job-fronts (t .0) js i) (feeds-foremost t 1 fs i))
     ∙ over-is (map (jobPiece (t .0)) (map bookJob js)) (map (currentPiece (t .0)) (bookFeeds 1 fs))
+
+-- whose the foremost piece is runs
+pub front-who : (b : Book) (p : Piece) → p ≡ frontOf (runner b) → runner b .who ≡ whoOf (p .who)
+front-who b p e = sym (ap (λ q. whoOf (q .who)) e ∙ who-back (runner b .who))

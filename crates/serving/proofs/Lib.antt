@@ -1,4 +1,6 @@
 pub mod Order
 pub mod Front
-pub mod Served
+pub mod Given
+pub mod Owed
 pub mod Steps
+pub mod Answers

@@ -1,12 +1,16 @@
 -- Who goes first, test by test as the code makes them.
-use mathlib.Core.Path.{_≡_, sym, ap, _∙_}
+use mathlib.Core.Path.{_≡_, refl, sym, ap, _∙_}
 use mathlib.Core.Bool.{Bool, true, false, _&&_, _||_}
 use Prim.Native.Nat.{ℕ, _≤_, _<_}
 use native.Mathlib.Omega.{arith}
 use lib.Dec.{eqb}
 use borrow.Author.Tests.{lt-ltb, le-ltb, eq-eqb, ne-eqb}
 use Rattle.edf.specs.Pieces.{Piece}
-use Rattle.edf.specs.Step.{first, sooner, goesBefore}
+use Rattle.edf.specs.Step.{numberOf, first, sooner, goesBefore}
+use Rattle.answers.specs.declared.Who.{Who}
+use Rattle.answers.specs.declared.Who.the-variants as who
+use Rattle.answers.specs.Answers.{nameOf}
+use Rattle.ledger.specs.Books.{whoOf}
 
 pub first-below : (a b : ℕ) (r : Bool) → a < b → true ≡ first a b r
 unfolding first
@@ -44,3 +48,9 @@ both-ready p q n m =
     sym
     (ap (λ x. x && (eqb (q .owes) 0 || sooner p q)) (lt-ltb 0 (p .owes) (omega arith))
     ∙ ap (λ x. x || sooner p q) (ne-eqb (q .owes) 0 m))
+
+-- the number that decides between two of a kind
+pub name-is : (w : Who) → nameOf w ≡ numberOf (whoOf w)
+name-is (who.Job n) = refl
+name-is (who.Feed p) = refl
+name-is who.Idle = refl

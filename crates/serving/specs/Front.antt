@@ -6,23 +6,11 @@ use Rattle.ticks.specs.declared.Instant.{Instant}
 use Rattle.ticks.specs.Ticks.{instant, ticks}
 use Rattle.feeds.specs.declared.Feed.{Feed}
 use Rattle.jobs.specs.declared.Job.{Job}
-use Rattle.edf.specs.Book as edf
 use Rattle.edf.specs.Pieces.{Piece as BookPiece, currentPiece}
 use Rattle.edf.specs.Step.{sooner, goesBefore, nobody}
-use Rattle.ledger.specs.Reading.{bookFeed}
-use Rattle.serving.specs.declared.Who.{Who}
-use Rattle.serving.specs.declared.Who.the-variants.{Job as AJob, Feed as AFeed, Idle}
+use Rattle.answers.specs.declared.Who.the-variants as who
+use Rattle.ledger.specs.Books.{bookFeed, whoOf, whoIs}
 use Rattle.serving.specs.declared.Piece.{Piece}
-
-abbrev pub whoOf : Who → edf.Who
-whoOf (AJob n) = edf.job n
-whoOf (AFeed p) = edf.feed p
-whoOf Idle = edf.idle
-
-abbrev pub whoIs : edf.Who → Who
-whoIs (edf.job n) = AJob n
-whoIs (edf.feed p) = AFeed p
-whoIs edf.idle = Idle
 
 -- a piece of the mathematics as the code has it: who, when due and what is owed
 abbrev pub frontOf : BookPiece → Piece
@@ -39,14 +27,14 @@ abbrev pub goesBeforeOf : Piece → Piece → Bool
 goesBeforeOf p q = goesBefore (pieceOf p) (pieceOf q)
 
 -- the one of the two that goes first
-abbrev pub aheadOf : Piece → Piece → Piece
-aheadOf p q = cond (goesBeforeOf p q) p q
+abbrev pub firstOfTwo : Piece → Piece → Piece
+firstOfTwo p q = cond (goesBeforeOf p q) p q
 
 abbrev pub nobodyFront : Piece
 nobodyFront = frontOf nobody
 
 abbrev pub jobFront : Job → Piece
-jobFront j = record { who = AJob (j .number); due = j .deadline; owes = j .owed }
+jobFront j = record { who = who.Job (j .number); due = j .deadline; owes = j .owed }
 
 abbrev pub feedFront : Instant → ℕ → Feed → Piece
 feedFront t k f = frontOf (currentPiece (t .0) (bookFeed k f))
@@ -54,7 +42,7 @@ feedFront t k f = frontOf (currentPiece (t .0) (bookFeed k f))
 -- the one of these that goes first, and where none of them goes before it, the last
 unfoldable pub foremostOver : List Piece → Piece → Piece
 foremostOver [] last = last
-foremostOver (p ∷ ps) last = aheadOf p (foremostOver ps last)
+foremostOver (p ∷ ps) last = firstOfTwo p (foremostOver ps last)
 
 abbrev pub jobFronts : List Job → List Piece
 jobFronts js = map jobFront js

@@ -1,44 +1,51 @@
--- A tick of the clock, the feeds and the jobs: the step of the mathematics, written back.
-use mathlib.Core.Path.{_≡_}
-use mathlib.Core.List.{List, map}
-use Prim.Native.Nat.{_≤_, _<_}
-use Rattle.ticks.specs.declared.Instant.{Instant}
-use Rattle.ticks.specs.Ticks.{lastInstant, instant, ticks}
+-- A tick of the state: the step of the mathematics, written back.
+use mathlib.Core.List.{List, [], _∷_}
+use mathlib.Core.Bool.{not}
+use Prim.Native.Nat.{_≤_}
+use lib.Dec.{ltb}
+use Rattle.ticks.specs.Ticks.{lastInstant, ticks}
 use Rattle.feeds.specs.declared.Feed.{Feed}
-use Rattle.feeds.specs.declared.Feeds.{Feeds}
-use Rattle.feeds.specs.Feeds.{mostFeeds, feedsOf, live as liveFeeds}
+use Rattle.feeds.specs.Pieces.{owesAt, served as feedServed}
 use Rattle.jobs.specs.declared.Job.{Job}
-use Rattle.jobs.specs.declared.Table.{Table}
-use Rattle.jobs.specs.Jobs.{mostJobs, tableOf, live as liveJobs}
-use Rattle.edf.specs.Book.{Book}
-use Rattle.edf.specs.Step.{Ran, ran, step}
-use Rattle.ledger.specs.Reading.{bookOf, feedOf, jobOf}
-use Rattle.ledger.specs.InOrder.{InOrder}
-use Rattle.serving.specs.declared.Named.{Named}
-use Rattle.serving.specs.declared.Ticked.{Ticked}
-use Rattle.serving.specs.Front.{whoIs}
+use Rattle.jobs.specs.Served.{served as jobServed}
+use Rattle.answers.specs.declared.Who.{Who}
+use Rattle.answers.specs.declared.Who.the-variants as who
+use Rattle.answers.specs.declared.Refusal.the-variants.{PastLast}
+use Rattle.answers.specs.Answers.{Line, line, firstOf, onYes}
+use Rattle.edf.specs.Step.{ran, step}
+use Rattle.ledger.specs.declared.Ledger.{Ledger}
+use Rattle.ledger.specs.Books.{bookOf, rewritten, whoIs}
+use Rattle.serving.specs.declared.Stepped.{Stepped}
 
--- a state in order whose clock can go on, its unused places zero
-pub record Steppable (clock : Instant) (feeds : Feeds) (table : Table) : Type 0 where
-  pub order : InOrder clock (liveFeeds feeds) (liveJobs table)
-  pub goesOn : clock .0 < lastInstant
-  pub feedsKept : feeds ≡ feedsOf (liveFeeds feeds)
-  pub tableKept : table ≡ tableOf (liveJobs table)
-  pub fewFeeds : feeds .count ≤ mostFeeds
-  pub fewJobs : table .count ≤ mostJobs
+-- a feed that gets the tick owes something
+unfoldable pub Owed : Who → List Feed → Type 0
+Owed (who.Feed p) fs = 1 ≤ owesAt p 1 fs
+Owed (who.Job n) fs = Unit {0}
+Owed who.Idle fs = Unit {0}
 
-abbrev pub namedOf : Ran → Named
-namedOf r = record { who = whoIs (r .who); owes = ticks (r .owes) }
+-- the feeds after the tick was given, before any release
+abbrev pub servedFeeds : Who → List Feed → List Feed
+servedFeeds (who.Feed p) fs = feedServed p 1 fs
+servedFeeds (who.Job n) fs = fs
+servedFeeds who.Idle fs = fs
 
--- a book written back, with whom the tick went to
-abbrev pub written : Book → Ran → Ticked
-written b r =
+-- the jobs after the tick was given; one leaves with its last
+abbrev pub servedJobs : Who → List Job → List Job
+servedJobs (who.Job n) js = jobServed n js
+servedJobs (who.Feed p) js = js
+servedJobs who.Idle js = js
+
+-- the clock is at its last instant (3)
+abbrev pub lastLine : Ledger → Line
+lastLine l = line (not (ltb (l .clock .0) lastInstant)) PastLast
+
+-- a step of a state in order: the state after the tick, whom it went to, and what that piece of work still owes; nobody and
+-- nothing where the clock is at its end
+unfoldable pub steppedOf : Ledger → Stepped
+steppedOf l =
     record {
-      clock = instant (b .clock);
-      feeds = feedsOf (map feedOf (b .feeds));
-      table = tableOf (map jobOf (b .jobs));
-      named = namedOf r;
+      ledger = onYes (firstOf (lastLine l ∷ [])) (rewritten l (step (bookOf l))) l;
+      verdict = firstOf (lastLine l ∷ []);
+      who = onYes (firstOf (lastLine l ∷ [])) (whoIs (ran (bookOf l) .who)) who.Idle;
+      owes = onYes (firstOf (lastLine l ∷ [])) (ticks (ran (bookOf l) .owes)) (ticks 0);
     }
-
-unfoldable pub tickedOf : Instant → List Feed → List Job → Ticked
-tickedOf clock fs js = written (step (bookOf clock fs js)) (ran (bookOf clock fs js))

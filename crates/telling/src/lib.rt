@@ -50,9 +50,9 @@ fn run(out: &mut [u8], running: Running) -> Running
     let mut session = running.session;
     let mut at = running.at;
     while 0 < session.left {
-        let turn = session.tick();
-        let said = turn.said;
-        session = turn.session;
+        let reply = session.tick();
+        let said = reply.said;
+        session = reply.session;
         at = tell(out, at, said);
     }
     Running { session, at }
@@ -66,9 +66,9 @@ fn hear(input: &[u8], out: &mut [u8], going: Going) -> Going
     let at = going.at;
     let read = going.session.read(input, going.place);
     let place = read.place;
-    let turn = read.turn;
-    let session = turn.session;
-    let said = turn.said;
+    let reply = read.reply;
+    let session = reply.session;
+    let said = reply.said;
     let told = tell(out, at, said);
     let ran = run(out, Running { session, at: told });
     let after = ran.session;

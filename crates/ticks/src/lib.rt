@@ -1,10 +1,10 @@
-// Time in whole ticks: the instant and the length, each with its limits, named here and nowhere else.
-// It must not know feeds, jobs or refusals.
+// Time in whole ticks: the instant and the length, each with its limits, named here and nowhere else, and the few sums and
+// differences that are allowed between them. It must not know feeds, jobs or refusals.
 ghost use mathlib.Core.Path.{_≡_};
 ghost use Prim.Native.Nat.{_+_, _≤_, _<_, _^_};
 ghost use lib.Dec.{ltb, leb, eqb};
-ghost use Rattle.ticks.specs.Ticks.{lastInstant, mostJob, mostFeed, within, fromOne, isJob, isFeed, plus, less};
-ghost use Rattle.ticks.specs.Ticks.{instant, ticks};
+ghost use Rattle.ticks.specs.Ticks.{lastInstant, mostJob, mostFeed, mostRound, within, fromOne, jobLength, feedLength};
+ghost use Rattle.ticks.specs.Ticks.{plus, next, previous, ticksSince, remainder, laterOf, earlierOf, less, instant, ticks};
 
 // A moment that the clock can read; tick t lies between the instants t and t + 1.
 #[repr(C)]
@@ -58,11 +58,54 @@ impl Instant {
         Instant(self.0 + by.0)
     }
 
-    pub fn less(self, earlier: Instant) -> Length
+    // A tick later.
+    pub fn next(self) -> Instant
+        requires { ⌜ self .0 + 1 < 2 ^ 64 ⌝ }
+        ensures { λ r. ⌜ r ≡ next self ⌝ }
+    {
+        Instant(self.0 + 1)
+    }
+
+    // A tick earlier.
+    pub fn previous(self) -> Instant
+        requires { ⌜ 1 ≤ self .0 ⌝ }
+        ensures { λ r. ⌜ r ≡ previous self ⌝ }
+    {
+        Instant(self.0 - 1)
+    }
+
+    // How many ticks lie between an earlier instant and this one.
+    pub fn ticks_since(self, earlier: Instant) -> Length
         requires { ⌜ earlier .0 ≤ self .0 ⌝ }
-        ensures { λ r. ⌜ r ≡ less self earlier ⌝ }
+        ensures { λ r. ⌜ r ≡ ticksSince self earlier ⌝ }
     {
         Length(self.0 - earlier.0)
+    }
+
+    // What is left of the time since the first instant when it is divided by a period.
+    pub fn remainder(self, period: Length) -> Length
+        requires { ⌜ 1 ≤ period .0 ⌝ }
+        ensures { λ r. ⌜ r ≡ remainder self period ⌝ }
+    {
+        Length(self.0 % period.0)
+    }
+
+    pub fn later_of(self, other: Instant) -> Instant
+        ensures { λ r. ⌜ r ≡ laterOf self other ⌝ }
+    {
+        if self.0 < other.0 {
+            return other;
+        }
+        self
+    }
+
+    pub fn earlier_of(self, other: Instant) -> Instant
+        ensures { λ r. ⌜ r ≡ earlierOf self other ⌝ }
+    {
+        if other.0 < self.0 {
+            return other;
+        }
+        self
     }
 }
 
@@ -71,8 +114,10 @@ impl Length {
     pub const NONE: Length = Length(0);
     // The most that a job may want, and the furthest ahead that its deadline may lie when it asks.
     pub const JOB: Length = Length(65536);
-    // The longest period, the longest piece of a feed, and the longest round.
+    // The longest period, and the longest piece of a feed.
     pub const PERIOD: Length = Length(40320);
+    // The longest round.
+    pub const ROUND: Length = Length(40320);
 
     // As many ticks as a caller names.
     pub fn of(count: u32) -> Length
@@ -93,6 +138,12 @@ impl Length {
         Length::PERIOD
     }
 
+    pub fn most_round() -> Length
+        ensures { λ r. ⌜ r ≡ ticks mostRound ⌝ }
+    {
+        Length::ROUND
+    }
+
     // From 1 tick up to the most.
     fn from_one(self, most: Length) -> bool
         ensures { λ r. ⌜ r ≡ fromOne (most .0) self ⌝ }
@@ -104,29 +155,51 @@ impl Length {
     }
 
     // A work or a lead that a job may have.
-    pub fn is_job(self) -> bool
-        ensures { λ r. ⌜ r ≡ isJob self ⌝ }
+    pub fn suits_job(self) -> bool
+        ensures { λ r. ⌜ r ≡ jobLength self ⌝ }
     {
         self.from_one(Length::JOB)
     }
 
     // A period or a work that a feed may have.
-    pub fn is_feed(self) -> bool
-        ensures { λ r. ⌜ r ≡ isFeed self ⌝ }
+    pub fn suits_feed(self) -> bool
+        ensures { λ r. ⌜ r ≡ feedLength self ⌝ }
     {
         self.from_one(Length::PERIOD)
     }
 
     // A round that is not too long.
-    pub fn is_round(self) -> bool
-        ensures { λ r. ⌜ r ≡ leb (self .0) mostFeed ⌝ }
+    pub fn suits_round(self) -> bool
+        ensures { λ r. ⌜ r ≡ leb (self .0) mostRound ⌝ }
     {
-        self.0 <= Length::PERIOD.0
+        self.0 <= Length::ROUND.0
     }
 
     pub fn is_none(self) -> bool
         ensures { λ r. ⌜ r ≡ eqb (self .0) 0 ⌝ }
     {
         self.0 == Length::NONE.0
+    }
+
+    pub fn is_longer(self, than: Length) -> bool
+        ensures { λ r. ⌜ r ≡ ltb (than .0) (self .0) ⌝ }
+    {
+        than.0 < self.0
+    }
+
+    // What is left of it without so many ticks.
+    pub fn less(self, by: Length) -> Length
+        requires { ⌜ by .0 ≤ self .0 ⌝ }
+        ensures { λ r. ⌜ r ≡ less self by ⌝ }
+    {
+        Length(self.0 - by.0)
+    }
+
+    // One tick of it was given.
+    pub fn one_less(self) -> Length
+        requires { ⌜ 1 ≤ self .0 ⌝ }
+        ensures { λ r. ⌜ r ≡ less self (ticks 1) ⌝ }
+    {
+        Length(self.0 - 1)
     }
 }

@@ -1,4 +1,4 @@
--- `listing::goes_first` meets its contract: each return goes by the test that led there. Assumes nothing.
+-- `listing::goes_first` meets its contract: each return goes by the test that led there.
 use borrow.Author.Tests.{eq-eqb, ne-eqb}
 use Rattle.listing.specs.Order.{goesFirst}
 use Rattle.listing.proofs.goes_first.Statement.{statement}

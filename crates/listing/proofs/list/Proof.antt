@@ -1,14 +1,14 @@
 -- `listing::list` meets its contract: the jobs listed so far stand in the buffer, and the others are left in the table.
--- Assumes nothing.
-use mathlib.Core.Path.{_≡_, ap, _∙_}
+use mathlib.Core.Path.{_≡_, sym, ap, _∙_}
 use mathlib.Core.List.{_++_}
 use Prim.Native.Nat.{_*_, _-_, _≤_, _<_}
 use native.Mathlib.Omega.{arith}
 use borrow.Author.Needs.{needs}
 use lib.ListN.{length, drop}
-use Rattle.jobs.specs.Jobs.{live, mostJobs}
+use Rattle.jobs.specs.Jobs.{numbersAJob, live, mostJobs}
+use Rattle.jobs.proofs.Places.{live-count}
 use Rattle.listing.specs.Order.{words, listOrder}
-use Rattle.listing.proofs.Buffer.{Written, first-kept, written-length, written-none, written-more, written-all}
+use Rattle.listing.proofs.Buffer.{Written, first-tidy, written-length, written-none, written-more, written-all}
 use Rattle.listing.proofs.list.Statement.{statement}
 use Rattle.listing.proofs.list.Tie as tie
 
@@ -20,7 +20,7 @@ abbrev μ-loop : tie.MeasureT-loop
 
 -- as many live jobs as the table counts
 many : (c : tie.Start Inv-loop μ-loop) → c .args .table .count ≡ length (live (c .args .table))
-many c = ap (λ t. t .count) (c .pre .0)
+many c = sym (live-count (c .args .table) (c .pre .0))
 
 -- some jobs are left, and no more than there are places
 some : (c : tie.In-loop Inv-loop μ-loop) → (0 < c .before .loop .left .count) × (c .before .loop .left .count ≤ mostJobs)
@@ -31,7 +31,7 @@ some c =
 -- the next job is one of them
 inside : (c : tie.After-first-of Inv-loop μ-loop) → c .first-of .result < c .before .before .loop .left .count
 inside c =
-    omega (arith, c .first-of .ensures, first-kept (c .before .before .loop .left) (c .before .before .loop .inv .1 .kept) (some (c .before) .0))
+    omega (arith, c .first-of .ensures, first-tidy (c .before .before .loop .left) (c .before .before .loop .inv .1 .tidy) (some (c .before) .0))
 
 loop-holds : tie.Need-loop-holds Inv-loop μ-loop
 loop-holds c = (omega arith, written-none (c .before .args .table) (c .before .args .buffer .now) (c .before .pre .0))
@@ -45,22 +45,13 @@ mul-job c = omega (arith, inside c, some (c .before) .1)
 element-copy-out-job : tie.Need-element-copy-out-job Inv-loop μ-loop
 element-copy-out-job c = omega (arith, inside c, some (c .before) .1)
 
-mul-put : tie.Need-mul-put Inv-loop μ-loop
-mul-put c = search needs
-
 put-requires : tie.Need-put-requires Inv-loop μ-loop
 put-requires c κs =
     let loop = c .before .before .before .before .loop in
     omega (arith, written-length _ _ (loop .i) _ _ (omega arith) (loop .inv .1))
 
 without-requires : tie.Need-without-requires Inv-loop μ-loop
-without-requires c κs = (c .before .before .before .before .before .before .before .loop .inv .1 .kept, some (c .before .before .before .before .before .before) .1, inside (c .before .before .before .before .before))
-
-add-i : tie.Need-add-i Inv-loop μ-loop
-add-i c = search needs
-
-loop-less : tie.Need-loop-less Inv-loop μ-loop
-loop-less c = search needs
+without-requires c κs = (c .before .before .before .before .before .before .before .loop .inv .1 .tidy, inside (c .before .before .before .before .before))
 
 loop-again : tie.Need-loop-again Inv-loop μ-loop
 loop-again c =
@@ -82,7 +73,7 @@ returns c =
     let last : loop .i ≡ t .count = omega arith in (
       all,
       written-all _ _ _ _ (loop .i) (last ∙ all) (loop .inv .1)
-          ∙ ap (λ n. words (listOrder (live t)) ++ drop (3 * n) (c .before .before .before .args .buffer .now)) last,
+          ∙ ap (λ n. words (listOrder (live t)) ++ drop (numbersAJob * n) (c .before .before .before .args .buffer .now)) last,
     )
 
 pub list-spec : {M : Type 1} → statement M
@@ -95,11 +86,11 @@ list-spec =
     first-of-requires
     mul-job
     element-copy-out-job
-    mul-put
+    (λ c. search needs)
     put-requires
     without-requires
-    add-i
-    loop-less
+    (λ c. search needs)
+    (λ c. search needs)
     loop-again
     same-length
     returns)

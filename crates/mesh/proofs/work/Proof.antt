@@ -1,4 +1,4 @@
--- `mesh::work` meets its contract: each arm lies past the bands before its own, and its own reaches the count. Assumes nothing.
+-- `mesh::work` meets its contract: each arm lies past the bands before its own, and its own reaches the count.
 use native.Mathlib.Omega.{arith}
 use Rattle.mesh.proofs.Bands.{band-here, band-past, band-none}
 use Rattle.mesh.proofs.work.Statement.{statement}

@@ -1,5 +1,4 @@
 -- `reasons::margin` meets its contract: each number reads as itself with a sign, and so does their difference.
--- Assumes nothing.
 use mathlib.Core.Path.{_≡_, sym, _∙_, subst}
 use Prim.Native.Nat.{_^_}
 use lib.IntN.{pos, _-ℤ_}
@@ -10,12 +9,6 @@ use borrow.Author.Needs.{needs}
 use Rattle.edf.proofs.Signed.{difference-below}
 use Rattle.reasons.proofs.margin.Statement.{statement}
 use Rattle.reasons.proofs.margin.Tie as tie
-
-cast-result : tie.Need-cast-result
-cast-result c = search needs
-
-cast-result-2 : tie.Need-cast-result-2
-cast-result-2 c = search needs
 
 -- what is taken away, and what from
 signed : (c : tie.Start) → toZ w64 (c .args .time .0) -ℤ toZ w64 (c .args .owed .0) ≡ pos (c .args .time .0) -ℤ pos (c .args .owed .0)
@@ -31,4 +24,4 @@ returns : tie.Need-returns
 returns c = toZ-ofZ w64 _ (sub-result c) ∙ signed (c .before .before)
 
 pub margin-spec : {M : Type 1} → statement M
-margin-spec = tie.close (tie.spec cast-result cast-result-2 sub-result returns)
+margin-spec = tie.close (tie.spec (λ c. search needs) (λ c. search needs) sub-result returns)

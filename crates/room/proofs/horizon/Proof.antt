@@ -1,57 +1,46 @@
 -- `room::horizon` meets its contract: no deadline is further ahead than the longest lead, and no round is longer than the
--- longest. Assumes nothing.
+-- longest.
 use mathlib.Core.Path.{_≡_, ap, _∙_}
 use native.Mathlib.Omega.{arith}
-use Rattle.ticks.specs.Ticks.{instant}
-use Rattle.feeds.specs.Feeds.{live as liveFeeds}
-use Rattle.feeds.specs.Round.{periods, roundOf}
+use borrow.Author.Needs.{needs}
+use Rattle.ticks.specs.Ticks.{plus}
+use Rattle.feeds.specs.Feeds.{inUse}
 use Rattle.feeds.proofs.Limits.{feeds-in-made}
-use Rattle.jobs.specs.Jobs.{live as liveJobs}
-use Rattle.room.specs.Owed.{firstDue, lastOf, lastDue, horizonOf}
-use Rattle.room.proofs.Owed.{last-near}
+use Rattle.room.specs.Ahead.{latestOf, nextOf, lastDue, horizonOf}
+use Rattle.room.proofs.Ahead.{last-near}
 use Rattle.room.proofs.horizon.Statement.{statement}
 use Rattle.room.proofs.horizon.Tie as tie
 
-last-deadline-requires : tie.Need-last-deadline-requires
-last-deadline-requires c κs = c .pre .fewJobs
-
-last-release-requires : tie.Need-last-release-requires
-last-release-requires c κs = (c .before .pre .fewFeeds, c .before .pre .order .feeds .within, c .before .pre .order .clock)
-
 round-requires : tie.Need-round-requires
-round-requires c κs = (c .before .before .pre .fewFeeds, feeds-in-made _ (c .before .before .pre .order .feeds .within))
+round-requires c κs =
+    let order = c .before .before .before .pre in
+    (order .tidyFeeds .few, feeds-in-made _ (order .feeds .passing .within))
 
 -- past every deadline and every next release
-last : (c : tie.After-last-release) → c .last-release .result .0 ≡ lastDue (c .before .before .args .clock) (liveFeeds (c .before .before .args .feeds)) (liveJobs (c .before .before .args .table))
+last : (c : tie.After-last-release) → c .last-release .result ≡ lastDue (c .before .before .before .args .ledger)
 unfolding lastDue
 last c =
-    let start = c .before .before in
-    ap (λ i. i .0) (c .last-release .ensures)
-    ∙ ap (λ i. lastOf (firstDue (start .args .clock .0)) (liveFeeds (start .args .feeds)) (i .0)) (c .before .last-deadline .ensures)
-
-round : (c : tie.After-round) → c .round .result .0 ≡ roundOf (periods (liveFeeds (c .before .before .before .args .feeds)))
-round c = ap (λ l. l .0) (c .round .ensures)
+    let l = c .before .before .before .args .ledger in
+    c .last-release .ensures
+    ∙ ap (latestOf (nextOf (l .clock)) (inUse (l .feeds))) (c .before .last-deadline .ensures)
 
 plus-requires : tie.Need-plus-requires
 plus-requires c κs =
-    let start = c .before .before .before in
+    let start = c .before .before .before .before in
     omega (
       arith,
-      last (c .before),
-      round c,
-      last-near (start .args .clock) (liveFeeds (start .args .feeds)) (liveJobs (start .args .table)) (start .pre .order),
-      start .pre .order .clock,
-      start .pre .order .feeds .short,
+      ap (λ i. i .0) (last (c .before)),
+      ap (λ r. r .0) (c .round .ensures),
+      last-near (start .args .ledger) (start .pre),
+      start .pre .clock,
+      start .pre .feeds .passing .short,
     )
 
 returns : tie.Need-returns
 unfolding horizonOf
-returns c =
-    let sum : c .plus .result .0 ≡ horizonOf (c .before .before .before .before .args .clock) (liveFeeds (c .before .before .before .before .args .feeds)) (liveJobs (c .before .before .before .before .args .table))
-    = omega (arith, ap (λ i. i .0) (c .plus .ensures), last (c .before .before), round (c .before)) in
-    ap instant sum
+returns c = c .plus .ensures ∙ (λ i. plus (last (c .before .before) i) (c .before .round .ensures i))
 
 pub horizon-spec : {M : Type 1} → statement M
 horizon-spec =
     tie.close
-    (tie.spec last-deadline-requires last-release-requires round-requires plus-requires returns)
+    (tie.spec (λ c κs. search needs) (λ c κs. search needs) round-requires plus-requires returns)

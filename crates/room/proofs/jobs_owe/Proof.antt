@@ -1,5 +1,4 @@
 -- `room::jobs_owe` meets its contract: what is added up so far and what the jobs that are left owe make the whole.
--- Assumes nothing.
 use mathlib.Core.Path.{_≡_, ap}
 use Prim.Native.Nat.{_+_, _*_, _-_, _≤_}
 use native.Mathlib.Omega.{arith}
@@ -20,22 +19,10 @@ Inv-loop by table count sum₀ i₀ sum i = (i ≤ count) × (sum ≤ i * mostJo
 abbrev μ-loop : tie.MeasureT-loop
 μ-loop by table count sum₀ i₀ sum i = count - i
 
-loop-holds : tie.Need-loop-holds Inv-loop μ-loop
-loop-holds c = (omega arith, omega arith, omega arith)
-
 few : (c : tie.Start Inv-loop μ-loop) → c .args .t1 .count ≤ length (c .args .t1 .jobs)
 few c =
     let long : length (c .args .t1 .jobs) ≡ 64 = search (needs, length-mapped) in
     omega arith
-
-mul-job-owes : tie.Need-mul-job-owes Inv-loop μ-loop
-mul-job-owes c = search needs
-
-element-copy-out-job-owes : tie.Need-element-copy-out-job-owes Inv-loop μ-loop
-element-copy-out-job-owes c = search needs
-
-job-owes-requires : tie.Need-job-owes-requires Inv-loop μ-loop
-job-owes-requires c κs = search needs
 
 -- the next job owes no more than a job may
 small : (c : tie.In-loop Inv-loop μ-loop) → jobOwes (c .before .before .args .by .0) (getD (c .before .before .args .t1 .jobs) (c .before .loop .i) noJob) ≤ mostJob
@@ -47,12 +34,6 @@ small c =
 
 add-sum : tie.Need-add-sum Inv-loop μ-loop
 add-sum c = omega (arith, c .before .before .before .loop .inv, c .job-owes .ensures, small (c .before .before), c .before .before .before .before .pre .0)
-
-add-i : tie.Need-add-i Inv-loop μ-loop
-add-i c = search needs
-
-loop-less : tie.Need-loop-less Inv-loop μ-loop
-loop-less c = search needs
 
 loop-again : tie.Need-loop-again Inv-loop μ-loop
 loop-again c =
@@ -77,12 +58,12 @@ jobs-owe-spec =
     (tie.spec
     Inv-loop
     μ-loop
-    loop-holds
-    mul-job-owes
-    element-copy-out-job-owes
-    job-owes-requires
+    (λ c. (omega arith, omega arith, omega arith))
+    (λ c. search needs)
+    (λ c. search needs)
+    (λ c κs. search needs)
     add-sum
-    add-i
-    loop-less
+    (λ c. search needs)
+    (λ c. search needs)
     loop-again
     returns)

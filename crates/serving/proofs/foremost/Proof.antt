@@ -1,7 +1,7 @@
--- `serving::foremost` meets its contract: the foremost feed, then the jobs before it. Assumes nothing.
+-- `serving::foremost` meets its contract: the foremost feed, then the jobs before it.
 use mathlib.Core.Path.{ap, _∙_}
-use borrow.Author.Needs.{needs}
-use Rattle.feeds.specs.Feeds.{live as liveFeeds}
+use native.Mathlib.Omega.{arith}
+use Rattle.feeds.specs.Feeds.{inUse}
 use Rattle.jobs.specs.Jobs.{live}
 use Rattle.serving.specs.Front.{foremostOver, jobFronts}
 use Rattle.serving.proofs.Front.{foremost-is-runner}
@@ -9,17 +9,18 @@ use Rattle.serving.proofs.foremost.Statement.{statement}
 use Rattle.serving.proofs.foremost.Tie as tie
 
 foremost-feed-requires : tie.Need-foremost-feed-requires
-foremost-feed-requires c κs = search needs
+foremost-feed-requires c κs =
+    (c .pre .tidyFeeds .few, c .pre .feeds .passing .within, omega (arith, c .pre .clock))
 
 foremost-job-requires : tie.Need-foremost-job-requires
-foremost-job-requires c κs = search needs
+foremost-job-requires c κs = c .before .pre .tidyTable .few
 
 returns : tie.Need-returns
 returns c =
-    let a = c .before .before .args in
+    let l = c .before .before .args .ledger in
     c .foremost-job .ensures
-    ∙ ap (foremostOver (jobFronts (live (a .table)))) (c .before .foremost-feed .ensures)
-    ∙ foremost-is-runner (a .clock) (liveFeeds (a .feeds)) (live (a .table))
+    ∙ ap (foremostOver (jobFronts (live (l .table)))) (c .before .foremost-feed .ensures)
+    ∙ foremost-is-runner (l .clock) (inUse (l .feeds)) (live (l .table))
 
 pub foremost-spec : {M : Type 1} → statement M
 foremost-spec = tie.close (tie.spec foremost-feed-requires foremost-job-requires returns)

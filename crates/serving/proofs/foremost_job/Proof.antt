@@ -1,14 +1,13 @@
 -- `serving::foremost_job` meets its contract: from the last job down, the best so far is the foremost of those passed.
--- Assumes nothing.
 use mathlib.Core.Path.{_≡_, sym, ap, _∙_}
 use mathlib.Core.List.{_∷_}
 use Prim.Native.Nat.{_+_, _-_, _≤_}
 use native.Mathlib.Omega.{arith}
+use borrow.Author.Needs.{needs}
 use lib.ListN.{length, getD, drop}
 use Rattle.lists.proofs.Places.{length-mapped, next-live, no-more-live}
 use Rattle.jobs.specs.Jobs.{noJob, live}
-use Rattle.serving.specs.Front.{foremostOver, jobFronts, aheadOf}
-use borrow.Author.Needs.{needs}
+use Rattle.serving.specs.Front.{foremostOver, jobFronts, firstOfTwo}
 use Rattle.serving.proofs.foremost_job.Statement.{statement}
 use Rattle.serving.proofs.foremost_job.Tie as tie
 
@@ -18,56 +17,42 @@ Inv-loop table best₀ i₀ best i = (i ≤ table .count) × (best ≡ foremostO
 abbrev μ-loop : tie.MeasureT-loop
 μ-loop table best₀ i₀ best i = i
 
+long : (c : tie.Start Inv-loop μ-loop) → length (c .args .t1 .jobs) ≡ 64
+long c = search (needs, length-mapped)
+
 loop-holds : tie.Need-loop-holds Inv-loop μ-loop
 unfolding foremostOver
 loop-holds c =
     let table = c .args .t1 in
-    let long : length (table .jobs) ≡ 64 = search (needs, length-mapped) in (
+    let many = long c in (
       omega arith,
       ap (λ l. foremostOver (jobFronts l) (c .args .piece))
           (sym (no-more-live (table .jobs) (table .count) (table .count) (omega arith) (omega arith))),
     )
 
-sub-i : tie.Need-sub-i Inv-loop μ-loop
-sub-i c = search needs
-
-mul-of-job : tie.Need-mul-of-job Inv-loop μ-loop
-mul-of-job c = search needs
-
-element-copy-out-of-job : tie.Need-element-copy-out-of-job Inv-loop μ-loop
-element-copy-out-of-job c = search needs
-
-of-job-requires : tie.Need-of-job-requires Inv-loop μ-loop
-of-job-requires c κs = search needs
-
-ahead-of-requires : tie.Need-ahead-of-requires Inv-loop μ-loop
-ahead-of-requires c κs = search needs
-
-loop-less : tie.Need-loop-less Inv-loop μ-loop
-loop-less c = search needs
-
 loop-again : tie.Need-loop-again Inv-loop μ-loop
 unfolding foremostOver
 loop-again c =
-    let table = c .before .before .before .before .before .args .t1 in
-    let i = c .before .before .before .before .loop .i in
-    let long : length (table .jobs) ≡ 64 = search (needs, length-mapped) in
-    let back : i ≡ (i - 1) + 1 = omega arith in
-    let here : drop (i - 1) (live table) ≡ getD (table .jobs) (i - 1) noJob ∷ drop ((i - 1) + 1) (live table)
-    = next-live (table .jobs) (table .count) (i - 1) noJob (omega arith) (omega arith) in
-    let rest : c .before .before .before .before .loop .best ≡ foremostOver (jobFronts (drop ((i - 1) + 1) (live table))) (c .before .before .before .before .before .args .piece)
-    = c .before .before .before .before .loop .inv .1 ∙ ap (λ n. foremostOver (jobFronts (drop n (live table))) (c .before .before .before .before .before .args .piece)) back in (
+    let turn = c .before .before .before .before in
+    let table = turn .before .args .t1 in
+    let k = turn .loop .i - 1 in
+    let many = long (turn .before) in
+    let up : turn .loop .i ≡ k + 1 = omega arith in
+    let here : drop k (live table) ≡ getD (table .jobs) k noJob ∷ drop (k + 1) (live table)
+    = next-live (table .jobs) (table .count) k noJob (omega arith) (omega arith) in
+    let rest : turn .loop .best ≡ foremostOver (jobFronts (drop (k + 1) (live table))) (turn .before .args .piece)
+    = turn .loop .inv .1 ∙ ap (λ n. foremostOver (jobFronts (drop n (live table))) (turn .before .args .piece)) up in (
       omega arith,
-      c .ahead-of .ensures
-          ∙ (λ j. aheadOf (c .before .of-job .ensures j) (rest j))
-          ∙ ap (λ l. foremostOver (jobFronts l) (c .before .before .before .before .before .args .piece)) (sym here),
+      c .first-of .ensures
+          ∙ (λ j. firstOfTwo (c .before .of-job .ensures j) (rest j))
+          ∙ ap (λ l. foremostOver (jobFronts l) (turn .before .args .piece)) (sym here),
     )
 
 returns : tie.Need-returns Inv-loop μ-loop
 returns c =
-    let table = c .before .before .args .t1 in
+    let start = c .before .before in
     let z : c .before .loop .i ≡ 0 = omega arith in
-    c .before .loop .inv .1 ∙ ap (λ n. foremostOver (jobFronts (drop n (live table))) (c .before .before .args .piece)) z
+    c .before .loop .inv .1 ∙ ap (λ n. foremostOver (jobFronts (drop n (live (start .args .t1)))) (start .args .piece)) z
 
 pub foremost-job-spec : {M : Type 1} → statement M
 foremost-job-spec =
@@ -76,11 +61,11 @@ foremost-job-spec =
     Inv-loop
     μ-loop
     loop-holds
-    sub-i
-    mul-of-job
-    element-copy-out-of-job
-    of-job-requires
-    ahead-of-requires
-    loop-less
+    (λ c. search needs)
+    (λ c. search needs)
+    (λ c. search needs)
+    (λ c κs. search needs)
+    (λ c κs. search needs)
+    (λ c. search needs)
     loop-again
     returns)

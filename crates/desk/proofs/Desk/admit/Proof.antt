@@ -1,40 +1,45 @@
--- `desk::Desk::admit` meets its contract: the job among the others, everything fits or not. Assumes nothing.
-use mathlib.Core.Path.{refl, sym, subst}
+-- `desk::Desk::admit` meets its contract: the state with the job is what is asked of room.
+use mathlib.Core.Path.{_≡_, refl, sym, ap, subst, _∙_}
 use mathlib.Core.Logic.{inl, inr}
-use Rattle.edf.specs.Fits.{Fits}
-use Rattle.refusals.specs.declared.Verdict.the-variants.{Yes}
-use Rattle.desk.specs.Asking.{Judged}
-use Rattle.desk.proofs.State.{jobs-are-kept}
-use Rattle.desk.proofs.Asking.{taken-ordered, taken-book, taken-desk}
+use borrow.Author.Needs.{needs}
+use Rattle.answers.specs.declared.Verdict.the-variants.{Yes}
+use Rattle.room.specs.Walk.{FitsSays}
+use Rattle.ledger.specs.State.{InOrder}
+use Rattle.ledger.specs.Books.{bookOf}
+use Rattle.ledger.proofs.InOrder.{in-order}
+use Rattle.desk.specs.Asking.{with-job, Judged}
+use Rattle.desk.proofs.Calls.{taken-ledger}
+use Rattle.desk.proofs.Asking.{taken-in-order, taken-book}
 use Rattle.desk.proofs.Desk.admit.Statement.{statement}
 use Rattle.desk.proofs.Desk.admit.Tie as tie
 
-taken-requires : tie.Need-taken-requires
-taken-requires c κs =
-    let a = c .pre in
-    (jobs-are-kept (c .args .self) (a .sized) (a .order), a .space)
+order : (c : tie.Start) → InOrder (c .args .self .ledger)
+order c = in-order _ (c .pre .sized) (c .pre .order)
 
 fits-requires : tie.Need-fits-requires
-fits-requires c κs = taken-ordered (c .before .args .self) (c .before .args .job) (c .before .pre) _ (c .taken .ensures)
+fits-requires c κs =
+    let start = c .before .before .before in
+    subst InOrder (sym (c .moved .ensures)) (taken-in-order (start .args .self) (start .args .job) (start .pre) _ (c .before .taken .ensures))
+
+-- what room says of the book with the job
+says : (c : tie.After-fits2) → FitsSays (c .fits2 .result) (with-job (c .before .before .before .before .args .self) (c .before .before .before .before .args .job))
+says c =
+    let start = c .before .before .before .before in
+    subst (FitsSays (c .fits2 .result))
+    (ap bookOf (c .before .moved .ensures) ∙ taken-book (start .args .self) (start .args .job) (start .pre) _ (c .before .before .taken .ensures))
+    (c .fits2 .ensures)
 
 returns : tie.Need-returns
 unfolding Judged
 returns c =
-    let d = c .before .before .before .args .self in
-    let j = c .before .before .before .args .job in
-    let b = taken-book d j (c .before .before .before .pre) _ (c .before .before .taken .ensures) in
-    inl (
-      subst Fits b (c .before .fits2 .ensures .yes (c .if1 .taken)),
-      λ i. record { desk = taken-desk d j (c .before .before .before .pre) _ (c .before .before .taken .ensures) i; verdict = Yes },
-    )
+    let k = c .before .before in
+    let start = k .before .before .before .before in
+    let new = k .before .moved .ensures ∙ taken-ledger (start .args .self .ledger) (order start) (start .args .job) _ (k .before .before .taken .ensures) in
+    inl (says k .yes (c .before .if1 .taken), λ i. record { desk = (c .with .ensures ∙ (λ n. record { ledger = new n })) i; verdict = Yes })
 
 returns-2 : tie.Need-returns-2
 unfolding Judged
-returns-2 c =
-    let d = c .before .before .before .args .self in
-    let j = c .before .before .before .args .job in
-    let b = taken-book d j (c .before .before .before .pre) _ (c .before .before .taken .ensures) in
-    inr (λ f. c .before .fits2 .ensures .no (c .if1 .left) (subst Fits (sym b) f), refl)
+returns-2 c = inr (says (c .before) .no (c .if1 .left), refl)
 
 pub admit-spec : {M : Type 1} → statement M
-admit-spec = tie.close (tie.spec taken-requires fits-requires returns returns-2)
+admit-spec = tie.close (tie.spec (λ c κs. (order (c .before) .tidyTable, c .before .pre .space)) (λ c κs. search needs) fits-requires (λ c κs. search needs) returns returns-2)

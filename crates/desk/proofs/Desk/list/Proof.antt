@@ -1,74 +1,61 @@
--- `desk::Desk::list` meets its contract: line 13, line 11, then the jobs. Assumes nothing.
+-- `desk::Desk::list` meets its contract: its lines, then the list of the live jobs.
 use mathlib.Core.Path.{_≡_, sym, ap, _∙_}
-use mathlib.Core.Bool.{true, false, not}
+use mathlib.Core.Bool.{true}
 use mathlib.Core.List.{_++_}
 use Prim.Native.Nat.{_*_}
-use native.Mathlib.Omega.{arith}
+use borrow.Author.Needs.{needs}
+use borrow.Author.Tests.{not-true, not-false, ltb-false}
 use lib.ListN.{length, drop}
-use borrow.Author.Needs.{needs}
-use borrow.Author.Tests.{not-true, not-false, lt-ltb, le-ltb}
 use Rattle.lists.proofs.Places.{length-mapped}
-use Rattle.jobs.specs.Jobs.{live}
+use Rattle.jobs.specs.Jobs.{numbersAJob, live}
 use Rattle.listing.specs.Order.{listOrder, words}
-use Rattle.desk.specs.declared.Counted.the-variants.{Jobs}
-use Rattle.refusals.specs.declared.Verdict.the-variants.{Yes}
-use Rattle.desk.specs.State.{inOrder, Sized}
-use Rattle.refusals.specs.Refusals.{firstOf, onYes}
-use Rattle.desk.specs.Calls.{listLines, countIf, countedOf, listedOf}
-use Rattle.desk.proofs.State.{jobs-are-kept}
-use Rattle.refusals.proofs.Refusals.{stops, goes-on, no-line}
-use Rattle.desk.proofs.Calls.{few-jobs}
-use borrow.Author.Needs.{needs}
+use Rattle.answers.specs.Answers.{firstOf, isYes}
+use Rattle.answers.proofs.Answers.{is-yes, yes-first, on-yes, on-no}
+use Rattle.ledger.specs.State.{Sized, InOrder}
+use Rattle.ledger.proofs.InOrder.{in-order}
+use Rattle.desk.specs.Calls.{listLines, countedOf, listedOf}
 use Rattle.desk.proofs.Desk.list.Statement.{statement}
 use Rattle.desk.proofs.Desk.list.Tie as tie
 
-sized : (c : tie.Start) → Sized (c .args .self)
+sized : (c : tie.Start) → Sized (c .args .self .ledger)
 sized c = record { feeds = search (needs, length-mapped); jobs = search (needs, length-mapped) }
 
-in-order-requires : tie.Need-in-order-requires
-in-order-requires c κs = search needs
+abbrev start : tie.Else1 → tie.Start
+start c = c .before .before .before .before
+
+yes : (c : tie.Else1) → isYes (firstOf (listLines (start c .args .self) (length (start c .args .buffer .now)))) ≡ true
+yes c = ap isYes (sym (c .before .before .list-stops .ensures)) ∙ sym (c .before .is-yes .ensures) ∙ not-false _ (c .if1 .left)
+
+order : (c : tie.Else1) → InOrder (start c .args .self .ledger)
+order c = in-order _ (sized (start c)) (not-false _ (yes-first _ _ (is-yes _ (yes c)) .0))
 
 returns : tie.Need-returns
 unfolding countedOf listedOf
 returns c =
-    let a = c .before .before .before .args in
-    let out : inOrder (a .self) ≡ false = sym (c .before .in-order .ensures) ∙ not-true _ (c .if1 .taken) in
-    let says = stops _ _ (ap not out) in
-    (sym (ap (λ v. countIf v (length (live (a .self .table)))) says), sym (ap (λ v. onYes v (words (listOrder (live (a .self .table))) ++ drop (3 * a .self .table .count) (a .buffer .now)) (a .buffer .now)) says))
+    let a = c .before .before .before .before .args in
+    let d = a .self in
+    let stop = c .before .before .list-stops .ensures in
+    let no = ap isYes (sym stop) ∙ sym (c .before .is-yes .ensures) ∙ not-true _ (c .if1 .taken) in (
+      λ i. record { verdict = stop i; count = sym (on-no (firstOf (listLines d (length (a .buffer .now)))) (length (live (d .ledger .table))) 0 no) i },
+      sym (on-no (firstOf (listLines d (length (a .buffer .now)))) (words (listOrder (live (d .ledger .table))) ++ drop (numbersAJob * d .ledger .table .count) (a .buffer .now)) (a .buffer .now) no),
+    )
 
-mul-if2 : tie.Need-mul-if2
-mul-if2 c = omega (arith, few-jobs (c .before .before .before .before .args .self) (sized (c .before .before .before .before)) (sym (c .before .before .in-order .ensures) ∙ not-false _ (c .before .if1 .left)))
+list-requires : tie.Need-list-requires
+list-requires c κs =
+    let k = c .before in
+    (order k .tidyTable, ltb-false _ _ (yes-first _ _ (yes-first _ _ (is-yes _ (yes k)) .1) .0))
 
 returns-2 : tie.Need-returns-2
 unfolding countedOf listedOf
 returns-2 c =
-    let a = c .before .before .before .before .before .args in
-    let fine : inOrder (a .self) ≡ true = sym (c .before .before .before .in-order .ensures) ∙ not-false _ (c .before .before .if1 .left) in
-    let says = goes-on _ _ _ (ap not fine) (stops _ _ (lt-ltb _ _ (c .if2 .taken))) in
-    (sym (ap (λ v. countIf v (length (live (a .self .table)))) says), sym (ap (λ v. onYes v (words (listOrder (live (a .self .table))) ++ drop (3 * a .self .table .count) (a .buffer .now)) (a .buffer .now)) says))
-
-list-requires : tie.Need-list-requires
-list-requires c κs =
-    let d = c .before .before .before .before .before .before .args .self in
-    let fine : inOrder d ≡ true = sym (c .before .before .before .before .in-order .ensures) ∙ not-false _ (c .before .before .before .if1 .left) in
-    (jobs-are-kept d (sized (c .before .before .before .before .before .before)) fine, few-jobs d (sized (c .before .before .before .before .before .before)) fine, c .before .if2 .left)
-
-same-length : tie.Need-same-length
-same-length c = search needs
-
-returns-3 : tie.Need-returns-3
-unfolding countedOf listedOf
-returns-3 c =
-    let a = c .before .before .before .before .before .before .before .before .before .args in
-    let fine : inOrder (a .self) ≡ true = sym (c .before .before .before .before .before .before .before .in-order .ensures) ∙ not-false _ (c .before .before .before .before .before .before .if1 .left) in
-    let says : firstOf (listLines (a .self) (length (a .buffer .now))) ≡ Yes
-    = goes-on _ _ _ (ap not fine) (goes-on _ _ _ (le-ltb _ _ (c .before .before .before .before .if2 .left)) no-line) in (
-      ap Jobs (c .before .before .list .ensures .0) ∙ sym (ap (λ v. countIf v (length (live (a .self .table)))) says),
+    let k = c .before .before .before .before in
+    let a = start k .args in
+    let d = a .self in
+    let stop = k .before .before .list-stops .ensures in (
+      λ i. record { verdict = stop i; count = (c .before .before .list .ensures .0 ∙ sym (on-yes (firstOf (listLines d (length (a .buffer .now)))) (length (live (d .ledger .table))) 0 (yes k))) i },
       c .before .before .list .ensures .1
-          ∙ sym (ap (λ v. onYes v (words (listOrder (live (a .self .table))) ++ drop (3 * a .self .table .count) (a .buffer .now)) (a .buffer .now)) says),
+          ∙ sym (on-yes (firstOf (listLines d (length (a .buffer .now)))) (words (listOrder (live (d .ledger .table))) ++ drop (numbersAJob * d .ledger .table .count) (a .buffer .now)) (a .buffer .now) (yes k)),
     )
 
 pub list-spec : {M : Type 1} → statement M
-list-spec =
-    tie.close
-    (tie.spec in-order-requires returns mul-if2 returns-2 list-requires same-length returns-3)
+list-spec = tie.close (tie.spec (λ c κs. search needs) (λ c κs. search needs) returns list-requires (λ c. search needs) returns-2)

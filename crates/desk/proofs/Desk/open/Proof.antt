@@ -1,49 +1,85 @@
--- `desk::Desk::open` meets its contract: lines 12 and 8 first. Assumes nothing.
-use mathlib.Core.Path.{_≡_, sym, ap, _∙_}
+-- `desk::Desk::open` meets its contract: lines 12 and 8, then line 3, then the feeds' own.
+use mathlib.Core.Path.{_≡_, refl, sym, ap, subst, _∙_}
+use mathlib.Core.Bool.{true, false}
+use lib.Dec.{leb}
 use lib.ListN.{length}
-use Rattle.feeds.specs.declared.Listed.the-variants.{Fine}
-use Rattle.feeds.specs.Lines.{shapeOf}
-use Rattle.feeds.proofs.Lines.{not-fine}
-use Rattle.desk.specs.Answers.{verdictOf}
-use Rattle.desk.proofs.Opening.{refused-by-shape, refused-opening, refused-empty}
 use borrow.Author.Needs.{needs}
+use borrow.Author.Tests.{not-true, not-false, leb-true}
+use Rattle.ticks.specs.Ticks.{lastInstant}
+use Rattle.feeds.specs.Feeds.{inUse, Tidy}
+use Rattle.feeds.specs.Lines.{shapeLines, feedsIn}
+use Rattle.feeds.proofs.Passing.{in-use-of, tidy-of}
+use Rattle.feeds.proofs.Lent.{few-read, nothing-yet}
+use Rattle.answers.specs.declared.Verdict.the-variants.{Yes, No}
+use Rattle.answers.specs.declared.Refusal.the-variants.{PastLast}
+use Rattle.answers.specs.Answers.{firstOf, isYes}
+use Rattle.answers.proofs.Answers.{is-yes}
+use Rattle.desk.specs.Opening.{Fresh, openedAt}
+use Rattle.desk.proofs.Opening.{refused-by-shape, refused-by-instant, judged-by-feeds}
 use Rattle.desk.proofs.Desk.open.Statement.{statement}
 use Rattle.desk.proofs.Desk.open.Tie as tie
 
-shape-requires : tie.Need-shape-requires
-shape-requires c κs = search needs
+abbrev start : tie.Else1 → tie.Start
+start c = c .before .before .before .before
 
-enum-told : tie.Need-enum-told
-enum-told c = search needs
-
-open-shaped-requires : tie.Need-open-shaped-requires
-open-shaped-requires c κs = sym (c .before .before .shape .ensures) ∙ c .enum-told .given .1
-
-none-requires : tie.Need-none-requires
-none-requires c κs = search needs
-
-verdict-of-requires : tie.Need-verdict-of-requires
-verdict-of-requires c κs = search needs
+yes : (c : tie.Else1) → firstOf (shapeLines (length (start c .args .list .now))) ≡ Yes
+yes c = is-yes _ (ap isYes (sym (c .before .before .shape .ensures)) ∙ sym (c .before .is-yes .ensures) ∙ not-false _ (c .if1 .left))
 
 returns : tie.Need-returns
-returns c = search needs
+returns c =
+    let k = c .before in
+    let a = k .before .before .before .before .args in
+    let shape = k .before .before .shape .ensures in
+    let no = ap isYes (sym shape) ∙ sym (k .before .is-yes .ensures) ∙ not-true _ (k .if1 .taken) in
+    (λ i. record { desk = c .none .ensures i; verdict = shape i }) ∙ refused-by-shape (a .list .now) (a .start) no
+
+-- whether the clock can read the instant
+reads : (c : tie.After-within) → c .within .result ≡ leb (start (c .before .before) .args .start) lastInstant
+reads c = c .within .ensures ∙ ap (λ t. leb (t .0) lastInstant) (c .before .at .ensures)
 
 returns-2 : tie.Need-returns-2
 returns-2 c =
-    let a = c .before .before .before .before .before .args in
-    let shape = c .before .before .before .shape in
-    let bad : shapeOf (length (a .list .now)) ≡ Fine → ⊥ = λ e. not-fine _ (c .before .before .match .keys2) (shape .ensures ∙ e) in
-    (λ i. record { desk = c .before .none .ensures i; verdict = (c .verdict-of .ensures ∙ ap verdictOf (shape .ensures)) i })
-    ∙ refused-opening (a .list .now) (a .start) _ (refused-by-shape (a .list .now) (a .start) bad) (refused-empty _ bad _ _)
+    let w = c .before .before in
+    let k = w .before .before in
+    let a = start k .args in
+    (λ i. record { desk = c .none2 .ensures i; verdict = No PastLast }) ∙ refused-by-instant (a .list .now) (a .start) (yes k) (sym (reads w) ∙ not-true _ (c .before .if2 .taken))
+
+-- the feeds of the list, no piece come yet
+fed : (c : tie.After-taken) → inUse (c .taken .result) ≡ feedsIn (start (c .before .before .before .before) .args .list .now)
+fed c = ap inUse (c .taken .ensures) ∙ in-use-of (feedsIn (start (c .before .before .before .before) .args .list .now))
+
+open-at-requires : tie.Need-open-at-requires
+open-at-requires c κs =
+    let w = c .before .before in
+    let k = w .before .before in
+    let xs = start k .args .list .now in (
+      subst Tidy (sym (c .taken .ensures)) (tidy-of (feedsIn xs) (few-read xs (yes k))),
+      subst Fresh (sym (fed c)) (nothing-yet xs),
+      leb-true _ _ (sym (w .within .ensures) ∙ not-false _ (c .before .if2 .left)),
+    )
+
+returns-3 : tie.Need-returns-3
+returns-3 c =
+    let t = c .before in
+    let w = t .before .before in
+    let k = w .before .before in
+    let a = start k .args in
+    c .open-at .ensures
+    ∙ (λ i. openedAt (fed t i) (w .before .at .ensures i))
+    ∙ judged-by-feeds (a .list .now) (a .start) (yes k) (sym (reads w) ∙ not-false _ (t .before .if2 .left))
 
 pub open-spec : {M : Type 1} → statement M
 open-spec =
     tie.close
     (tie.spec
-    shape-requires
-    enum-told
-    open-shaped-requires
-    none-requires
-    verdict-of-requires
+    (λ c κs. search needs)
+    (λ c κs. search needs)
+    (λ c κs. search needs)
     returns
-    returns-2)
+    (λ c κs. search needs)
+    (λ c κs. search needs)
+    (λ c κs. search needs)
+    returns-2
+    (λ c κs. yes (c .before .before .before))
+    open-at-requires
+    returns-3)

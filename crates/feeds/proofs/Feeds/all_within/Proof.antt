@@ -1,5 +1,4 @@
 -- `feeds::Feeds::all_within` meets its contract: the feeds are all within exactly if those still to look at are.
--- Assumes nothing.
 use mathlib.Core.Path.{_≡_, refl, sym, _∙_}
 use Prim.Native.Nat.{_-_, _≤_}
 use native.Mathlib.Omega.{arith}
@@ -8,48 +7,30 @@ use borrow.Author.Tests.{not-true, not-false}
 use lib.ListN.{length, drop}
 use Rattle.lists.specs.Lists.{every}
 use Rattle.lists.proofs.Places.{length-mapped, next-live, no-more-live, every-fails, every-goes-on, every-passes}
-use Rattle.feeds.specs.Feeds.{feedIn, live, noFeed}
+use Rattle.feeds.specs.Feeds.{feedIn, inUse, noFeed}
 use Rattle.feeds.proofs.Feeds.all_within.Statement.{statement}
 use Rattle.feeds.proofs.Feeds.all_within.Tie as tie
 
 abbrev Inv-loop : tie.InvT-loop
-Inv-loop self count i₀ i = (i ≤ count) × (every feedIn (live self) ≡ every feedIn (drop i (live self)))
+Inv-loop self count i₀ i = (i ≤ count) × (every feedIn (inUse self) ≡ every feedIn (drop i (inUse self)))
 
 abbrev μ-loop : tie.MeasureT-loop
 μ-loop self count i₀ i = count - i
-
-loop-holds : tie.Need-loop-holds Inv-loop μ-loop
-loop-holds c = (omega arith, refl)
-
-mul-within : tie.Need-mul-within Inv-loop μ-loop
-mul-within c = search needs
-
-element-copy-out-within : tie.Need-element-copy-out-within Inv-loop μ-loop
-element-copy-out-within c = search needs
-
-within-requires : tie.Need-within-requires Inv-loop μ-loop
-within-requires c κs = search needs
 
 returns : tie.Need-returns Inv-loop μ-loop
 returns c =
     let s = c .before .before .before .before .before .args .t1 .feeds in
     let long : length s ≡ 16 = search (needs, length-mapped) in
-    every-fails feedIn _ _ (c .before .before .before .before .loop .inv .1) _ _
+    every-fails _ _ _ (c .before .before .before .before .loop .inv .1) _ _
     (next-live s _ _ noFeed (c .before .before .before .loop-test .taken) (omega arith))
     (sym (c .before .within .ensures) ∙ not-true _ (c .if1 .taken))
-
-add-i : tie.Need-add-i Inv-loop μ-loop
-add-i c = search needs
-
-loop-less : tie.Need-loop-less Inv-loop μ-loop
-loop-less c = search needs
 
 loop-again : tie.Need-loop-again Inv-loop μ-loop
 loop-again c =
     let s = c .before .before .before .before .before .args .t1 .feeds in
     let long : length s ≡ 16 = search (needs, length-mapped) in (
       omega arith,
-      every-goes-on feedIn _ _ (c .before .before .before .before .loop .inv .1) _ _
+      every-goes-on _ _ _ (c .before .before .before .before .loop .inv .1) _ _
           (next-live s _ _ noFeed (c .before .before .before .loop-test .taken) (omega arith))
           (sym (c .before .within .ensures) ∙ not-false _ (c .if1 .left)),
     )
@@ -58,7 +39,7 @@ returns-2 : tie.Need-returns-2 Inv-loop μ-loop
 returns-2 c =
     let s = c .before .before .args .t1 .feeds in
     let long : length s ≡ 16 = search (needs, length-mapped) in
-    every-passes feedIn _ _ (c .before .loop .inv .1) (no-more-live s _ _ (c .loop-test .left) (omega arith))
+    every-passes _ _ _ (c .before .loop .inv .1) (no-more-live s _ _ (c .loop-test .left) (omega arith))
 
 pub all-within-spec : {M : Type 1} → statement M
 all-within-spec =
@@ -66,12 +47,12 @@ all-within-spec =
     (tie.spec
     Inv-loop
     μ-loop
-    loop-holds
-    mul-within
-    element-copy-out-within
-    within-requires
+    (λ c. (omega arith, refl))
+    (λ c. search needs)
+    (λ c. search needs)
+    (λ c κs. search needs)
     returns
-    add-i
-    loop-less
+    (λ c. search needs)
+    (λ c. search needs)
     loop-again
     returns-2)

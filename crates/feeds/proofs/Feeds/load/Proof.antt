@@ -1,5 +1,4 @@
 -- `feeds::Feeds::load` meets its contract: what is added up so far and what the feeds that are left want make the whole.
--- Assumes nothing.
 use mathlib.Core.Path.{_≡_, ap}
 use Prim.Native.Nat.{_+_, _*_, _-_, _≤_}
 use native.Mathlib.Omega.{arith}
@@ -7,20 +6,19 @@ use borrow.Author.Needs.{needs}
 use lib.ListN.{length, getD, drop}
 use Rattle.ticks.specs.Ticks.{mostFeed, ticks}
 use Rattle.lists.proofs.Places.{length-mapped, next-live, no-more-live}
-use Rattle.feeds.specs.Feeds.{FeedIn, live, noFeed}
+use Rattle.plans.specs.Plans.{share}
+use Rattle.feeds.specs.Feeds.{FeedIn, inUse, noFeed}
+use Rattle.feeds.specs.Round.{load}
 use Rattle.feeds.proofs.Limits.{feed-in-use}
-use Rattle.feeds.specs.Round.{load, share}
 use Rattle.feeds.proofs.Feeds.load.Statement.{statement}
 use Rattle.feeds.proofs.Feeds.load.Tie as tie
 
 abbrev Inv-loop : tie.InvT-loop
-Inv-loop round self count sum₀ i₀ sum i = (i ≤ count) × (sum ≤ i * (mostFeed * mostFeed)) × (load (round .0) (live self) ≡ sum + load (round .0) (drop i (live self)))
+Inv-loop round self count sum₀ i₀ sum i =
+    (i ≤ count) × (sum ≤ i * (mostFeed * mostFeed)) × (load (round .0) (inUse self) ≡ sum + load (round .0) (drop i (inUse self)))
 
 abbrev μ-loop : tie.MeasureT-loop
 μ-loop round self count sum₀ i₀ sum i = count - i
-
-loop-holds : tie.Need-loop-holds Inv-loop μ-loop
-loop-holds c = (omega arith, omega arith, omega arith)
 
 few : (c : tie.Start Inv-loop μ-loop) → c .args .t1 .count ≤ length (c .args .t1 .feeds)
 few c =
@@ -32,30 +30,18 @@ here :
     (c : tie.In-loop Inv-loop μ-loop) → FeedIn (getD (c .before .before .args .t1 .feeds) (c .before .loop .i) noFeed)
 here c = feed-in-use (c .before .before .args .t1) (c .before .loop .i) (c .before .before .pre .1) (c .loop-test .taken) (few (c .before .before))
 
-mul-share : tie.Need-mul-share Inv-loop μ-loop
-mul-share c = search needs
-
-element-copy-out-share : tie.Need-element-copy-out-share Inv-loop μ-loop
-element-copy-out-share c = search needs
-
 share-requires : tie.Need-share-requires Inv-loop μ-loop
 share-requires c κs = record { period = here (c .before) .period .0; work = here (c .before) .work .1; round = c .before .before .before .pre .2 }
 
 add-sum : tie.Need-add-sum Inv-loop μ-loop
 add-sum c = omega (arith, c .before .before .before .loop .inv, c .share .ensures .1, c .before .before .before .before .pre .0)
 
-add-i : tie.Need-add-i Inv-loop μ-loop
-add-i c = search needs
-
-loop-less : tie.Need-loop-less Inv-loop μ-loop
-loop-less c = search needs
-
 loop-again : tie.Need-loop-again Inv-loop μ-loop
 loop-again c =
     let self = c .before .before .before .before .args .t1 in
     let R = c .before .before .before .before .args .round .0 in
     let i = c .before .before .before .loop .i in
-    let next : load R (drop i (live self)) ≡ share R (getD (self .feeds) i noFeed) + load R (drop (i + 1) (live self)) =
+    let next : load R (drop i (inUse self)) ≡ share R (getD (self .feeds) i noFeed .plan) + load R (drop (i + 1) (inUse self)) =
     ap (load R) (next-live (self .feeds) (self .count) i noFeed (c .before .before .loop-test .taken) (few (c .before .before .before .before))) in
     omega (arith, c .before .before .before .loop .inv, c .share .ensures, next)
 
@@ -63,9 +49,9 @@ returns : tie.Need-returns Inv-loop μ-loop
 returns c =
     let self = c .before .before .args .t1 in
     let R = c .before .before .args .round .0 in
-    let none : load R (drop (c .before .loop .i) (live self)) ≡ 0 =
+    let none : load R (drop (c .before .loop .i) (inUse self)) ≡ 0 =
     ap (load R) (no-more-live (self .feeds) (self .count) (c .before .loop .i) (c .loop-test .left) (few (c .before .before))) in
-    let all : c .before .loop .sum ≡ load R (live self) = omega (arith, c .before .loop .inv, none) in
+    let all : c .before .loop .sum ≡ load R (inUse self) = omega (arith, c .before .loop .inv, none) in
     ap ticks all
 
 pub load-spec : {M : Type 1} → statement M
@@ -74,12 +60,12 @@ load-spec =
     (tie.spec
     Inv-loop
     μ-loop
-    loop-holds
-    mul-share
-    element-copy-out-share
+    (λ c. (omega arith, omega arith, omega arith))
+    (λ c. search needs)
+    (λ c. search needs)
     share-requires
     add-sum
-    add-i
-    loop-less
+    (λ c. search needs)
+    (λ c. search needs)
     loop-again
     returns)

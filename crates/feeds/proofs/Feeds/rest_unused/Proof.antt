@@ -1,5 +1,4 @@
 -- `feeds::Feeds::rest_unused` meets its contract: the unused places are all zero exactly if those still to look at are.
--- Assumes nothing.
 use mathlib.Core.Path.{_≡_, refl, sym, _∙_}
 use Prim.Native.Nat.{_-_, _≤_}
 use native.Mathlib.Omega.{arith}
@@ -18,38 +17,20 @@ Inv-loop self count i₀ i = (i ≤ mostFeeds) × (every unusedFeed (drop count 
 abbrev μ-loop : tie.MeasureT-loop
 μ-loop self count i₀ i = mostFeeds - i
 
-loop-holds : tie.Need-loop-holds Inv-loop μ-loop
-loop-holds c = (omega arith, refl)
-
-mul-is-none : tie.Need-mul-is-none Inv-loop μ-loop
-mul-is-none c = search needs
-
-element-copy-out-is-none : tie.Need-element-copy-out-is-none Inv-loop μ-loop
-element-copy-out-is-none c = search needs
-
-is-none-requires : tie.Need-is-none-requires Inv-loop μ-loop
-is-none-requires c κs = search needs
-
 returns : tie.Need-returns Inv-loop μ-loop
 returns c =
     let s = c .before .before .before .before .before .args .t1 .feeds in
     let long : length s ≡ 16 = search (needs, length-mapped) in
-    every-fails unusedFeed _ _ (c .before .before .before .before .loop .inv .1) _ _
+    every-fails _ _ _ (c .before .before .before .before .loop .inv .1) _ _
     (next s (c .before .before .before .before .loop .i) noFeed (omega arith))
     (sym (c .before .is-none .ensures) ∙ not-true _ (c .if1 .taken))
-
-add-i : tie.Need-add-i Inv-loop μ-loop
-add-i c = search needs
-
-loop-less : tie.Need-loop-less Inv-loop μ-loop
-loop-less c = search needs
 
 loop-again : tie.Need-loop-again Inv-loop μ-loop
 loop-again c =
     let s = c .before .before .before .before .before .args .t1 .feeds in
     let long : length s ≡ 16 = search (needs, length-mapped) in (
       omega arith,
-      every-goes-on unusedFeed _ _ (c .before .before .before .before .loop .inv .1) _ _
+      every-goes-on _ _ _ (c .before .before .before .before .loop .inv .1) _ _
           (next s (c .before .before .before .before .loop .i) noFeed (omega arith))
           (sym (c .before .is-none .ensures) ∙ not-false _ (c .if1 .left)),
     )
@@ -58,7 +39,7 @@ returns-2 : tie.Need-returns-2 Inv-loop μ-loop
 returns-2 c =
     let s = c .before .before .args .t1 .feeds in
     let long : length s ≡ 16 = search (needs, length-mapped) in
-    every-passes unusedFeed _ _ (c .before .loop .inv .1) (no-more s (c .before .loop .i) (omega arith))
+    every-passes _ _ _ (c .before .loop .inv .1) (no-more s (c .before .loop .i) (omega arith))
 
 pub rest-unused-spec : {M : Type 1} → statement M
 rest-unused-spec =
@@ -66,12 +47,12 @@ rest-unused-spec =
     (tie.spec
     Inv-loop
     μ-loop
-    loop-holds
-    mul-is-none
-    element-copy-out-is-none
-    is-none-requires
+    (λ c. (omega arith, refl))
+    (λ c. search needs)
+    (λ c. search needs)
+    (λ c κs. search needs)
     returns
-    add-i
-    loop-less
+    (λ c. search needs)
+    (λ c. search needs)
     loop-again
     returns-2)

@@ -1,77 +1,84 @@
--- `feeds::Feeds::sound` meets its contract: each return goes by the lines that led there. Assumes nothing.
+-- `feeds::Feeds::sound` meets its contract: each return goes by the lines that led there.
 use mathlib.Core.Path.{_≡_, sym, ap, _∙_}
 use mathlib.Core.Bool.{true}
-use native.Mathlib.Omega.{arith}
-use lib.Dec.{leb}
-use borrow.Author.Tests.{not-true, not-false, leb-true}
-use Rattle.ticks.specs.Ticks.{mostFeed}
-use Rattle.lists.specs.Lists.{every}
-use Rattle.feeds.specs.Feeds.{feedIn, live}
-use Rattle.feeds.specs.Round.{periods, roundOf, load}
-use Rattle.feeds.proofs.Lines.{sound-outside, sound-long, sound-much, sound-fine-made}
+use lib.Dec.{leb, ltb}
 use borrow.Author.Needs.{needs}
+use borrow.Author.Tests.{not-true, not-false, leb-true, ltb-true, ltb-false}
+use Rattle.ticks.specs.Ticks.{mostRound}
+use Rattle.lists.specs.Lists.{every}
+use Rattle.feeds.specs.Feeds.{feedIn, inUse}
+use Rattle.feeds.specs.Round.{periods, roundOf, load}
+use Rattle.feeds.proofs.Lines.{feeds-outside, feeds-too-long, feeds-too-much, feeds-yes}
 use Rattle.feeds.proofs.Feeds.sound.Statement.{statement}
 use Rattle.feeds.proofs.Feeds.sound.Tie as tie
 
-within : (c : tie.Else1) → every feedIn (live (c .before .before .args .self)) ≡ true
+within : (c : tie.Else1) → every feedIn (inUse (c .before .before .args .self)) ≡ true
 within c = sym (c .before .all-within .ensures) ∙ not-false _ (c .if1 .left)
 
--- the round that the code found, and its test
-the-round :
-    (c : tie.After-is-round) →
-    c .is-round .result ≡ leb (roundOf (periods (live (c .before .before .before .before .args .self)))) mostFeed
-the-round c = c .is-round .ensures ∙ ap (λ l. leb (l .0) mostFeed) (c .before .round .ensures)
+-- the test of the round that the code found
+the-test :
+    (c : tie.After-suits-round) →
+    c .suits-round .result ≡ leb (roundOf (periods (inUse (c .before .before .before .before .args .self)))) mostRound
+the-test c = c .suits-round .ensures ∙ ap (λ l. leb (l .0) mostRound) (c .before .round .ensures)
 
 short :
     (c : tie.Else2) →
-    leb (roundOf (periods (live (c .before .before .before .before .before .args .self)))) mostFeed ≡ true
-short c = sym (the-round (c .before)) ∙ not-false _ (c .if2 .left)
+    leb (roundOf (periods (inUse (c .before .before .before .before .before .args .self)))) mostRound ≡ true
+short c = sym (the-test (c .before)) ∙ not-false _ (c .if2 .left)
 
--- what the code added up
-the-load :
-    (c : tie.After-load) →
-    c .load .result .0 ≡ load (roundOf (periods (live (c .before .before .before .before .before .before .args .self)))) (live (c .before .before .before .before .before .before .args .self))
-the-load c = ap (λ l. l .0) (c .load .ensures) ∙ ap (λ l. load (l .0) (live (c .before .before .before .before .before .before .args .self))) (c .before .before .before .round .ensures)
-
-all-within-requires : tie.Need-all-within-requires
-all-within-requires c κs = search needs
+-- whether the load is more than the round, as the code told it
+too-much :
+    (c : tie.After-is-longer) →
+    c .is-longer .result
+    ≡ ltb (roundOf (periods (inUse (c .before .before .before .before .before .before .before .args .self))))
+    (load (roundOf (periods (inUse (c .before .before .before .before .before .before .before .args .self))))
+    (inUse (c .before .before .before .before .before .before .before .args .self)))
+too-much c =
+    let fs = inUse (c .before .before .before .before .before .before .before .args .self) in
+    let round = c .before .before .before .before .round .ensures in
+    c .is-longer .ensures
+    ∙ ap (λ l. ltb (c .before .before .before .before .round .result .0) (l .0)) (c .before .load .ensures)
+    ∙ ap (λ l. ltb (l .0) (load (l .0) fs)) round
 
 returns : tie.Need-returns
-returns c = sound-outside _ (sym (c .before .all-within .ensures) ∙ not-true _ (c .if1 .taken))
+returns c = sym (feeds-outside _ (sym (c .before .all-within .ensures) ∙ not-true _ (c .if1 .taken)))
 
 round-requires : tie.Need-round-requires
 round-requires c κs = (c .before .before .pre, within c)
 
-is-round-requires : tie.Need-is-round-requires
-is-round-requires c κs = search needs
-
 returns-2 : tie.Need-returns-2
-returns-2 c = sound-long _ (within (c .before .before .before)) (sym (the-round (c .before)) ∙ not-true _ (c .if2 .taken))
+returns-2 c =
+    sym (feeds-too-long _ (within (c .before .before .before)) (sym (the-test (c .before)) ∙ not-true _ (c .if2 .taken)))
 
 load-requires : tie.Need-load-requires
-load-requires c κs = (c .before .before .before .before .before .pre, within (c .before .before .before), leb-true _ _ (sym (c .before .is-round .ensures) ∙ not-false _ (c .if2 .left)))
+load-requires c κs =
+    let test = leb-true _ _ (sym (c .before .suits-round .ensures) ∙ not-false _ (c .if2 .left)) in
+    (c .before .before .before .before .before .pre, within (c .before .before .before), test)
 
 returns-3 : tie.Need-returns-3
 returns-3 c =
-    let round = ap (λ l. l .0) (c .before .before .before .before .before .before .round .ensures) in
-    let sum = the-load (c .before .before .before) in
-    sound-much _ (within (c .before .before .before .before .before .before .before)) (short (c .before .before .before .before)) (omega (arith, round, sum))
+    let s = c .before .before .before in
+    sym
+    (feeds-too-much _ (within (s .before .before .before)) (short s)
+    (ltb-true _ _ (sym (too-much (c .before)) ∙ c .if3 .taken)))
 
 returns-4 : tie.Need-returns-4
 returns-4 c =
-    let round = ap (λ l. l .0) (c .before .before .before .before .before .before .round .ensures) in
-    let sum = the-load (c .before .before .before) in
-    sound-fine-made _ (within (c .before .before .before .before .before .before .before)) (short (c .before .before .before .before)) (omega (arith, round, sum))
+    let s = c .before .before .before in
+    sym
+    (feeds-yes _ (within (s .before .before .before)) (short s)
+    (ltb-false _ _ (sym (too-much (c .before)) ∙ c .if3 .left)))
 
 pub sound-spec : {M : Type 1} → statement M
 sound-spec =
     tie.close
     (tie.spec
-    all-within-requires
+    (λ c κs. search needs)
     returns
     round-requires
-    is-round-requires
+    (λ c κs. search needs)
     returns-2
     load-requires
+    (λ c κs. search needs)
     returns-3
     returns-4)

@@ -1,4 +1,4 @@
--- `jobs::Job::is_none` meets its contract: each return goes by the tests that led there. Assumes nothing.
+-- `jobs::Job::is_none` meets its contract: each return goes by the tests that led there.
 use mathlib.Core.Path.{sym, _∙_}
 use borrow.Author.Tests.{not-true, not-false, eq-eqb, ne-eqb}
 use Rattle.lists.proofs.Tests.{passes, fails, last}
@@ -11,17 +11,11 @@ returns : tie.Need-returns
 unfolding unusedJob
 returns c = fails _ _ (ne-eqb _ _ (c .if1 .taken))
 
-is-none-requires : tie.Need-is-none-requires
-is-none-requires c κs = search needs
-
 returns-2 : tie.Need-returns-2
 unfolding unusedJob
 returns-2 c =
     passes _ _ _ (eq-eqb _ _ (c .before .before .if1 .left))
     (fails _ _ (sym (c .before .is-none .ensures) ∙ not-true _ (c .if2 .taken)))
-
-is-first-requires : tie.Need-is-first-requires
-is-first-requires c κs = search needs
 
 returns-3 : tie.Need-returns-3
 unfolding unusedJob
@@ -31,4 +25,4 @@ returns-3 c =
     (last _ _ (c .is-first .ensures)))
 
 pub is-none-spec : {M : Type 1} → statement M
-is-none-spec = tie.close (tie.spec returns is-none-requires returns-2 is-first-requires returns-3)
+is-none-spec = tie.close (tie.spec returns (λ c κs. search needs) returns-2 (λ c κs. search needs) returns-3)

@@ -1,4 +1,4 @@
--- `jobs::Table::in_order` meets its contract: each return goes by the tests that led there. Assumes nothing.
+-- `jobs::Table::in_order` meets its contract: each return goes by the tests that led there.
 use mathlib.Core.Path.{sym, _∙_}
 use borrow.Author.Tests.{not-true, not-false, lt-leb, le-leb}
 use Rattle.lists.proofs.Tests.{passes, fails, last}
@@ -11,17 +11,11 @@ returns : tie.Need-returns
 unfolding tableIn
 returns c = fails _ _ (lt-leb _ _ (c .if1 .taken))
 
-all-within-requires : tie.Need-all-within-requires
-all-within-requires c κs = search needs
-
 returns-2 : tie.Need-returns-2
 unfolding tableIn
 returns-2 c =
     passes _ _ _ (le-leb _ _ (c .before .before .if1 .left))
     (fails _ _ (sym (c .before .all-within .ensures) ∙ not-true _ (c .if2 .taken)))
-
-no-number-twice-requires : tie.Need-no-number-twice-requires
-no-number-twice-requires c κs = search needs
 
 returns-3 : tie.Need-returns-3
 unfolding tableIn
@@ -29,9 +23,6 @@ returns-3 c =
     passes _ _ _ (le-leb _ _ (c .before .before .before .before .if1 .left))
     (passes _ _ _ (sym (c .before .before .before .all-within .ensures) ∙ not-false _ (c .before .before .if2 .left))
     (fails _ _ (sym (c .before .no-number-twice .ensures) ∙ not-true _ (c .if3 .taken))))
-
-rest-unused-requires : tie.Need-rest-unused-requires
-rest-unused-requires c κs = search needs
 
 returns-4 : tie.Need-returns-4
 unfolding tableIn
@@ -46,9 +37,9 @@ in-order-spec =
     tie.close
     (tie.spec
     returns
-    all-within-requires
+    (λ c κs. search needs)
     returns-2
-    no-number-twice-requires
+    (λ c κs. search needs)
     returns-3
-    rest-unused-requires
+    (λ c κs. search needs)
     returns-4)

@@ -1,71 +1,93 @@
 -- `jobs::Table::no_number_twice` meets its contract: no number stands twice exactly if none does among the jobs still to
--- look at. Assumes nothing.
+-- look at, and a job's number stands behind it exactly if it stands among those behind it still to look at.
 use mathlib.Core.Path.{_≡_, refl, sym, ap, _∙_}
-use Prim.Native.Nat.{_-_, _≤_}
+use mathlib.Core.Bool.{not}
+use mathlib.Core.List.{_∷_}
+use Prim.Native.Nat.{_+_, _-_}
 use native.Mathlib.Omega.{arith}
 use borrow.Author.Needs.{needs}
-use borrow.Author.Tests.{not-true, not-false}
+use borrow.Author.Tests.{eq-eqb, ne-eqb}
 use lib.ListN.{length, getD, drop}
-use Rattle.lists.proofs.Places.{length-mapped, next-live, no-more-live}
-use Rattle.jobs.specs.Jobs.{live, noJob, distinct}
+use Rattle.lists.proofs.Places.{length-mapped, next-live, no-more-live, every-fails, every-goes-on, every-passes}
+use Rattle.jobs.specs.Jobs.{live, noJob, distinct, lacks}
 use Rattle.jobs.proofs.Numbers.{distinct-none, distinct-past, distinct-stop}
 use Rattle.jobs.proofs.Table.no_number_twice.Statement.{statement}
 use Rattle.jobs.proofs.Table.no_number_twice.Tie as tie
 
+abbrev Inv-loop2 : tie.InvT-loop2
+Inv-loop2 self count i number k₀ k = lacks number (drop (i + 1) (live self)) ≡ lacks number (drop k (live self))
+
+abbrev μ-loop2 : tie.MeasureT-loop2
+μ-loop2 self count i number k₀ k = count - k
+
 abbrev Inv-loop : tie.InvT-loop
-Inv-loop self count i₀ i = (i ≤ count) × (distinct (live self) ≡ distinct (drop i (live self)))
+Inv-loop self count i₀ i = distinct (live self) ≡ distinct (drop i (live self))
 
 abbrev μ-loop : tie.MeasureT-loop
 μ-loop self count i₀ i = count - i
 
-loop-holds : tie.Need-loop-holds Inv-loop μ-loop
-loop-holds c = (omega arith, refl)
+abbrev In-loop : Type 0
+In-loop = tie.In-loop Inv-loop2 μ-loop2 Inv-loop μ-loop
 
-last-of-number-requires : tie.Need-last-of-number-requires Inv-loop μ-loop
-last-of-number-requires c κs = search needs
+-- the job that is looked at, and those behind it
+here : (c : In-loop) → distinct (live (c .before .before .args .t1)) ≡ distinct (getD (c .before .before .args .t1 .jobs) (c .before .loop .i) noJob ∷ drop (c .before .loop .i + 1) (live (c .before .before .args .t1)))
+here c =
+    let js = c .before .before .args .t1 .jobs in
+    let long : length js ≡ 64 = search (needs, length-mapped) in
+    c .before .loop .inv ∙ ap distinct (next-live js _ (c .before .loop .i) noJob (c .loop-test .taken) (omega arith))
 
-returns : tie.Need-returns Inv-loop μ-loop
+returns : tie.Need-returns Inv-loop2 μ-loop2 Inv-loop μ-loop
+unfolding lacks
 returns c =
-    let js = c .before .before .before .before .args .self .jobs in
+    let js = c .before .before .before .before .before .args .t1 .jobs in
     let long : length js ≡ 64 = search (needs, length-mapped) in
-    let i = c .before .before .before .loop .i in
-    sym (c .before .before .before .loop .inv .1
-    ∙ ap distinct (next-live js _ i noJob (c .before .before .loop-test .taken) (omega arith))
-    ∙ distinct-stop (getD js i noJob) _ (sym (c .before .last-of-number .ensures) ∙ not-true _ (c .if1 .taken)))
+    let behind = next-live js _ (c .before .before .loop2 .k) noJob (c .before .loop2-test .taken) (omega arith) in
+    sym
+    (here (c .before .before .before)
+    ∙ distinct-stop _ _ (sym (every-fails _ _ _ (c .before .before .loop2 .inv) _ _ behind (ap not (eq-eqb _ _ (c .if1 .taken))))))
 
-add-i : tie.Need-add-i Inv-loop μ-loop
-add-i c = search needs
+loop2-again : tie.Need-loop2-again Inv-loop2 μ-loop2 Inv-loop μ-loop
+unfolding lacks
+loop2-again c =
+    let js = c .before .before .before .before .before .args .t1 .jobs in
+    let long : length js ≡ 64 = search (needs, length-mapped) in
+    let behind = next-live js _ (c .before .before .loop2 .k) noJob (c .before .loop2-test .taken) (omega arith) in
+    every-goes-on _ _ _ (c .before .before .loop2 .inv) _ _ behind (ap not (ne-eqb _ _ (c .if1 .left)))
 
-loop-less : tie.Need-loop-less Inv-loop μ-loop
-loop-less c = search needs
-
-loop-again : tie.Need-loop-again Inv-loop μ-loop
+loop-again : tie.Need-loop-again Inv-loop2 μ-loop2 Inv-loop μ-loop
+unfolding lacks
 loop-again c =
-    let js = c .before .before .before .before .args .self .jobs in
+    let js = c .before .before .before .before .args .t1 .jobs in
     let long : length js ≡ 64 = search (needs, length-mapped) in
-    let i = c .before .before .before .loop .i in (
-      omega arith,
-      c .before .before .before .loop .inv .1
-          ∙ ap distinct (next-live js _ i noJob (c .before .before .loop-test .taken) (omega arith))
-          ∙ distinct-past (getD js i noJob) _ (sym (c .before .last-of-number .ensures) ∙ not-false _ (c .if1 .left)),
-    )
+    let none = no-more-live js _ (c .before .loop2 .k) (c .loop2-test .left) (omega arith) in
+    here (c .before .before) ∙ distinct-past _ _ (sym (every-passes _ _ _ (c .before .loop2 .inv) none))
 
-returns-2 : tie.Need-returns-2 Inv-loop μ-loop
+returns-2 : tie.Need-returns-2 Inv-loop2 μ-loop2 Inv-loop μ-loop
 returns-2 c =
-    let js = c .before .before .args .self .jobs in
+    let js = c .before .before .args .t1 .jobs in
     let long : length js ≡ 64 = search (needs, length-mapped) in
-    sym (c .before .loop .inv .1 ∙ ap distinct (no-more-live js _ (c .before .loop .i) (c .loop-test .left) (omega arith)) ∙ distinct-none)
+    sym (c .before .loop .inv ∙ ap distinct (no-more-live js _ (c .before .loop .i) (c .loop-test .left) (omega arith)) ∙ distinct-none)
 
 pub no-number-twice-spec : {M : Type 1} → statement M
 no-number-twice-spec =
     tie.close
     (tie.spec
+    Inv-loop2
+    μ-loop2
     Inv-loop
     μ-loop
-    loop-holds
-    last-of-number-requires
+    (λ c. refl)
+    (λ c. search needs)
+    (λ c. search needs)
+    (λ c. search needs)
+    (λ c. refl)
+    (λ c. search needs)
+    (λ c. search needs)
     returns
-    add-i
-    loop-less
+    (λ c. search needs)
+    (λ c. search needs)
+    loop2-again
+    (λ c. search needs)
+    (λ c. search needs)
     loop-again
     returns-2)

@@ -1,7 +1,6 @@
 -- `jobs::Table::rest_unused` meets its contract: the unused places are all zero exactly if those still to look at are.
--- Assumes nothing.
 use mathlib.Core.Path.{_≡_, refl, sym, _∙_}
-use Prim.Native.Nat.{_-_, _≤_}
+use Prim.Native.Nat.{_-_}
 use native.Mathlib.Omega.{arith}
 use borrow.Author.Needs.{needs}
 use borrow.Author.Tests.{not-true, not-false}
@@ -13,52 +12,32 @@ use Rattle.jobs.proofs.Table.rest_unused.Statement.{statement}
 use Rattle.jobs.proofs.Table.rest_unused.Tie as tie
 
 abbrev Inv-loop : tie.InvT-loop
-Inv-loop self count i₀ i = (i ≤ mostJobs) × (every unusedJob (drop count (self .jobs)) ≡ every unusedJob (drop i (self .jobs)))
+Inv-loop self count i₀ i = every unusedJob (drop count (self .jobs)) ≡ every unusedJob (drop i (self .jobs))
 
 abbrev μ-loop : tie.MeasureT-loop
 μ-loop self count i₀ i = mostJobs - i
-
-loop-holds : tie.Need-loop-holds Inv-loop μ-loop
-loop-holds c = (omega arith, refl)
-
-mul-is-none : tie.Need-mul-is-none Inv-loop μ-loop
-mul-is-none c = search needs
-
-element-copy-out-is-none : tie.Need-element-copy-out-is-none Inv-loop μ-loop
-element-copy-out-is-none c = search needs
-
-is-none-requires : tie.Need-is-none-requires Inv-loop μ-loop
-is-none-requires c κs = search needs
 
 returns : tie.Need-returns Inv-loop μ-loop
 returns c =
     let js = c .before .before .before .before .before .args .t1 .jobs in
     let long : length js ≡ 64 = search (needs, length-mapped) in
-    every-fails unusedJob _ _ (c .before .before .before .before .loop .inv .1) _ _
+    every-fails unusedJob _ _ (c .before .before .before .before .loop .inv) _ _
     (next js (c .before .before .before .before .loop .i) noJob (omega arith))
     (sym (c .before .is-none .ensures) ∙ not-true _ (c .if1 .taken))
-
-add-i : tie.Need-add-i Inv-loop μ-loop
-add-i c = search needs
-
-loop-less : tie.Need-loop-less Inv-loop μ-loop
-loop-less c = search needs
 
 loop-again : tie.Need-loop-again Inv-loop μ-loop
 loop-again c =
     let js = c .before .before .before .before .before .args .t1 .jobs in
-    let long : length js ≡ 64 = search (needs, length-mapped) in (
-      omega arith,
-      every-goes-on unusedJob _ _ (c .before .before .before .before .loop .inv .1) _ _
-          (next js (c .before .before .before .before .loop .i) noJob (omega arith))
-          (sym (c .before .is-none .ensures) ∙ not-false _ (c .if1 .left)),
-    )
+    let long : length js ≡ 64 = search (needs, length-mapped) in
+    every-goes-on unusedJob _ _ (c .before .before .before .before .loop .inv) _ _
+    (next js (c .before .before .before .before .loop .i) noJob (omega arith))
+    (sym (c .before .is-none .ensures) ∙ not-false _ (c .if1 .left))
 
 returns-2 : tie.Need-returns-2 Inv-loop μ-loop
 returns-2 c =
     let js = c .before .before .args .t1 .jobs in
     let long : length js ≡ 64 = search (needs, length-mapped) in
-    every-passes unusedJob _ _ (c .before .loop .inv .1) (no-more js (c .before .loop .i) (omega arith))
+    every-passes unusedJob _ _ (c .before .loop .inv) (no-more js (c .before .loop .i) (omega arith))
 
 pub rest-unused-spec : {M : Type 1} → statement M
 rest-unused-spec =
@@ -66,12 +45,12 @@ rest-unused-spec =
     (tie.spec
     Inv-loop
     μ-loop
-    loop-holds
-    mul-is-none
-    element-copy-out-is-none
-    is-none-requires
+    (λ c. refl)
+    (λ c. search needs)
+    (λ c. search needs)
+    (λ c κs. search needs)
     returns
-    add-i
-    loop-less
+    (λ c. search needs)
+    (λ c. search needs)
     loop-again
     returns-2)

@@ -1,5 +1,4 @@
 -- `jobs::Table::without` meets its contract: the places behind have moved up so far, the rest stand as they stood.
--- Assumes nothing.
 use mathlib.Core.Path.{_≡_, sym, ap, _∙_}
 use Prim.Native.Nat.{_+_, _-_, _≤_}
 use native.Mathlib.Omega.{arith}
@@ -19,41 +18,8 @@ Inv-loop at self last behind table₀ i₀ table i = (i ≤ behind) × (table .j
 abbrev μ-loop : tie.MeasureT-loop
 μ-loop at self last behind table₀ i₀ table i = behind - i
 
-sub-last : tie.Need-sub-last Inv-loop μ-loop
-sub-last c = omega arith
-
-sub-behind : tie.Need-sub-behind Inv-loop μ-loop
-sub-behind c = omega arith
-
 loop-holds : tie.Need-loop-holds Inv-loop μ-loop
 loop-holds c = (omega arith, paste-zero (c .args .t1 .jobs) (c .args .at) (drop (c .args .at + 1) (c .args .t1 .jobs)))
-
-add-job : tie.Need-add-job Inv-loop μ-loop
-add-job c = omega arith
-
-add-job-2 : tie.Need-add-job-2 Inv-loop μ-loop
-add-job-2 c = omega arith
-
-mul-job : tie.Need-mul-job Inv-loop μ-loop
-mul-job c = omega arith
-
-element-copy-out-job : tie.Need-element-copy-out-job Inv-loop μ-loop
-element-copy-out-job c = omega arith
-
-add-job-3 : tie.Need-add-job-3 Inv-loop μ-loop
-add-job-3 c = omega arith
-
-mul-job-2 : tie.Need-mul-job-2 Inv-loop μ-loop
-mul-job-2 c = omega arith
-
-element-set-from-job : tie.Need-element-set-from-job Inv-loop μ-loop
-element-set-from-job c = omega arith
-
-add-i : tie.Need-add-i Inv-loop μ-loop
-add-i c = omega arith
-
-loop-less : tie.Need-loop-less Inv-loop μ-loop
-loop-less c = omega arith
 
 loop-again : tie.Need-loop-again Inv-loop μ-loop
 loop-again c =
@@ -72,17 +38,11 @@ loop-again c =
           ∙ ap (paste js at (drop (at + 1) js)) (sym (add-one i)),
     )
 
-mul-t9 : tie.Need-mul-t9 Inv-loop μ-loop
-mul-t9 c = omega arith
-
-element-set-from-table : tie.Need-element-set-from-table Inv-loop μ-loop
-element-set-from-table c = omega arith
-
 returns : tie.Need-returns Inv-loop μ-loop
 returns c =
     let t = c .before .before .args .t1 in
     (λ k. record { count = t .count - 1; jobs = set (c .before .loop .inv .1 k) (t .count - 1) noJob })
-    ∙ one-less t (c .before .before .args .at) (c .before .loop .i) (c .before .before .pre .0) (c .before .before .pre .1) (c .before .before .pre .2) (omega arith)
+    ∙ one-less t (c .before .before .args .at) (c .before .loop .i) (c .before .before .pre .0) (c .before .before .pre .1) (omega arith)
 
 pub without-spec : {M : Type 1} → statement M
 without-spec =
@@ -90,19 +50,19 @@ without-spec =
     (tie.spec
     Inv-loop
     μ-loop
-    sub-last
-    sub-behind
+    (λ c. search needs)
+    (λ c. search needs)
     loop-holds
-    add-job
-    add-job-2
-    mul-job
-    element-copy-out-job
-    add-job-3
-    mul-job-2
-    element-set-from-job
-    add-i
-    loop-less
+    (λ c. search needs)
+    (λ c. search needs)
+    (λ c. search needs)
+    (λ c. search needs)
+    (λ c. search needs)
+    (λ c. search needs)
+    (λ c. search needs)
+    (λ c. search needs)
+    (λ c. search needs)
     loop-again
-    mul-t9
-    element-set-from-table
+    (λ c. search needs)
+    (λ c. search needs)
     returns)

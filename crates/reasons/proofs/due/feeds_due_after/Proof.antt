@@ -1,5 +1,5 @@
 -- `reasons::due::feeds_due_after` meets its contract: up to the instant found so far nothing comes due, but for the feeds that are
--- left to look at. Assumes nothing.
+-- left to look at.
 use mathlib.Core.Path.{_≡_}
 use Prim.Native.Nat.{_-_, _≤_, _<_}
 use native.Mathlib.Nat.{le-refl}
@@ -7,46 +7,34 @@ use native.Mathlib.Omega.{arith}
 use borrow.Author.Needs.{needs}
 use lib.ListN.{length, drop}
 use Rattle.lists.proofs.Places.{length-mapped, next-live, no-more-live, each-live}
-use Rattle.feeds.specs.Feeds.{live, noFeed}
-use Rattle.room.specs.Owed.{feedOwes, FeedOrdered}
+use Rattle.feeds.specs.Feeds.{inUse, noFeed, FeedIn}
+use Rattle.room.specs.Owed.{feedOwes}
 use Rattle.reasons.proofs.Until.{StillBut, still-first, still-next, still-last}
 use Rattle.reasons.proofs.due.feeds_due_after.Statement.{statement}
 use Rattle.reasons.proofs.due.feeds_due_after.Tie as tie
 
 abbrev Inv-loop : tie.InvT-loop
-Inv-loop clock by feeds count next₀ i₀ next i = (i ≤ count) × (by .0 < next .0) × (next .0 ≤ next₀ .0) × StillBut (feedOwes (clock .0)) (by .0) (live feeds) (next .0) (drop i (live feeds))
+Inv-loop clock by feeds count next₀ i₀ next i = (i ≤ count) × (by .0 < next .0) × (next .0 ≤ next₀ .0) × StillBut (feedOwes (clock .0)) (by .0) (inUse feeds) (next .0) (drop i (inUse feeds))
 
 abbrev μ-loop : tie.MeasureT-loop
 μ-loop clock by feeds count next₀ i₀ next i = count - i
 
 loop-holds : tie.Need-loop-holds Inv-loop μ-loop
-loop-holds c = (omega arith, omega arith, le-refl _, still-first (feedOwes (c .args .clock .0)) _ (live (c .args .t1)) _)
+loop-holds c = (omega arith, omega arith, le-refl _, still-first (feedOwes (c .args .clock .0)) _ (inUse (c .args .t1)) _)
 
 few : (c : tie.Start Inv-loop μ-loop) → c .args .t1 .count ≤ length (c .args .t1 .feeds)
 few c =
     let long : length (c .args .t1 .feeds) ≡ 16 = search (needs, length-mapped) in
     omega arith
 
-mul-feed-due-after : tie.Need-mul-feed-due-after Inv-loop μ-loop
-mul-feed-due-after c = search needs
-
-element-copy-out-feed-due-after : tie.Need-element-copy-out-feed-due-after Inv-loop μ-loop
-element-copy-out-feed-due-after c = search needs
-
 feed-due-after-requires : tie.Need-feed-due-after-requires Inv-loop μ-loop
 feed-due-after-requires c κs =
     let start = c .before .before .before in
     let feeds = start .args .t1 in (
-      each-live (FeedOrdered (start .args .clock)) (feeds .feeds) (feeds .count) (c .before .before .loop .i) noFeed (start .pre .1) (c .before .loop-test .taken) (few start) .0,
+      each-live FeedIn (feeds .feeds) (feeds .count) (c .before .before .loop .i) noFeed (start .pre .1) (c .before .loop-test .taken) (few start),
       start .pre .2,
       c .before .before .loop .inv .1,
     )
-
-add-i : tie.Need-add-i Inv-loop μ-loop
-add-i c = search needs
-
-loop-less : tie.Need-loop-less Inv-loop μ-loop
-loop-less c = search needs
 
 loop-again : tie.Need-loop-again Inv-loop μ-loop
 loop-again c =
@@ -57,7 +45,7 @@ loop-again c =
       omega arith,
       until .after,
       omega (arith, until .within),
-      still-next (feedOwes (c .before .before .before .before .args .clock .0)) _ (live feeds) _ _ _ _ _
+      still-next (feedOwes (c .before .before .before .before .args .clock .0)) _ (inUse feeds) _ _ _ _ _
           (next-live (feeds .feeds) (feeds .count) i noFeed (c .before .before .loop-test .taken) (few (c .before .before .before .before)))
           (inv .3)
           until,
@@ -67,7 +55,7 @@ returns : tie.Need-returns Inv-loop μ-loop
 returns c =
     let feeds = c .before .before .args .t1 in
     let inv = c .before .loop .inv in
-    still-last (feedOwes (c .before .before .args .clock .0)) _ (live feeds) _ _ _
+    still-last (feedOwes (c .before .before .args .clock .0)) _ (inUse feeds) _ _ _
     (no-more-live (feeds .feeds) (feeds .count) (c .before .loop .i) (c .loop-test .left) (few (c .before .before)))
     (inv .3)
     (inv .1)
@@ -80,10 +68,10 @@ feeds-due-after-spec =
     Inv-loop
     μ-loop
     loop-holds
-    mul-feed-due-after
-    element-copy-out-feed-due-after
+    (λ c. search needs)
+    (λ c. search needs)
     feed-due-after-requires
-    add-i
-    loop-less
+    (λ c. search needs)
+    (λ c. search needs)
     loop-again
     returns)

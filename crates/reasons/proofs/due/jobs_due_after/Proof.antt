@@ -1,5 +1,5 @@
 -- `reasons::due::jobs_due_after` meets its contract: up to the instant found so far nothing comes due, but for the jobs that are
--- left to look at. Assumes nothing.
+-- left to look at.
 use mathlib.Core.Path.{_≡_}
 use Prim.Native.Nat.{_-_, _≤_, _<_}
 use native.Mathlib.Nat.{le-refl}
@@ -26,21 +26,6 @@ few : (c : tie.Start Inv-loop μ-loop) → c .args .t1 .count ≤ length (c .arg
 few c =
     let long : length (c .args .t1 .jobs) ≡ 64 = search (needs, length-mapped) in
     omega arith
-
-mul-job-due-after : tie.Need-mul-job-due-after Inv-loop μ-loop
-mul-job-due-after c = search needs
-
-element-copy-out-job-due-after : tie.Need-element-copy-out-job-due-after Inv-loop μ-loop
-element-copy-out-job-due-after c = search needs
-
-job-due-after-requires : tie.Need-job-due-after-requires Inv-loop μ-loop
-job-due-after-requires c κs = search needs
-
-add-i : tie.Need-add-i Inv-loop μ-loop
-add-i c = search needs
-
-loop-less : tie.Need-loop-less Inv-loop μ-loop
-loop-less c = search needs
 
 loop-again : tie.Need-loop-again Inv-loop μ-loop
 loop-again c =
@@ -74,10 +59,10 @@ jobs-due-after-spec =
     Inv-loop
     μ-loop
     loop-holds
-    mul-job-due-after
-    element-copy-out-job-due-after
-    job-due-after-requires
-    add-i
-    loop-less
+    (λ c. search needs)
+    (λ c. search needs)
+    (λ c κs. search needs)
+    (λ c. search needs)
+    (λ c. search needs)
     loop-again
     returns)

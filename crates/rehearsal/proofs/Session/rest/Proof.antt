@@ -1,43 +1,31 @@
+-- `rehearsal::Session::rest` meets its contract: only after `go`; then the desk's own answer.
 use mathlib.Core.Path.{_≡_, ap, _∙_}
 use mathlib.Core.Bool.{true, false}
-use borrow.Author.Tests.{not-true, not-false}
-use Rattle.refusals.specs.Refusals.{answerOf}
-use Rattle.sayings.specs.declared.Said.{Said}
-use Rattle.rehearsal.specs.Session.{withDesk, callOf, restOf}
 use borrow.Author.Needs.{needs}
+use borrow.Author.Tests.{not-true, not-false}
+use Rattle.sayings.specs.declared.Said.{Said}
+use Rattle.rehearsal.specs.Session.{withDesk, reply, callOf, restOf}
 use Rattle.rehearsal.proofs.Session.rest.Statement.{statement}
 use Rattle.rehearsal.proofs.Session.rest.Tie as tie
 
--- src/lib.rt:167:13
-bad-requires : tie.Need-bad-requires
-bad-requires c κs = search needs
+shut : (c : tie.Then1) → c .before .before .args .self .opened ≡ false
+shut c = not-true _ (c .if1 .taken)
 
--- src/lib.rt:167:13
+opened : (c : tie.Else1) → c .before .before .args .self .opened ≡ true
+opened c = not-false _ (c .if1 .left)
+
 returns : tie.Need-returns
 unfolding restOf
-returns c =
-    let shut : c .before .before .before .args .self .opened ≡ false = not-true _ (c .before .if1 .taken) in
-    c .bad .ensures ∙ rw shut
+returns c = c .bad .ensures ∙ rw (shut (c .before))
 
--- src/lib.rt:169:13
-rest-requires : tie.Need-rest-requires
-rest-requires c κs = search needs
-
--- src/lib.rt:172:13
-answer-requires : tie.Need-answer-requires
-answer-requires c κs = search needs
-
--- src/lib.rt:163:5
 returns-2 : tie.Need-returns-2
 unfolding restOf
 returns-2 c =
-    let s = c .before .before .before .before .before .args .self in
-    let a = c .before .before .rest .result in
-    let opened : s .opened ≡ true = not-false _ (c .before .before .before .if1 .left) in
-    let e : c .answer .result ≡ answerOf (a .verdict) = c .answer .ensures in
-    (λ i. record { session = withDesk s (a .desk); said = Said.Rest (e i) })
-    ∙ ap (callOf s Said.Rest) (c .before .before .rest .ensures)
-    ∙ rw opened
+    let call = c .before .before in
+    let s = call .before .before .before .args .self in
+    (λ i. reply (withDesk s (call .rest .result .desk)) (Said.Rest (c .answer .ensures i)))
+    ∙ ap (callOf s Said.Rest) (call .rest .ensures)
+    ∙ rw (opened (call .before))
 
 pub rest-spec : {M : Type 1} → statement M
-rest-spec = tie.close (tie.spec bad-requires returns rest-requires answer-requires returns-2)
+rest-spec = tie.close (tie.spec (λ c κs. search needs) returns (λ c κs. search needs) (λ c κs. search needs) returns-2)

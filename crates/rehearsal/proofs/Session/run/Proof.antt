@@ -1,28 +1,25 @@
+-- `rehearsal::Session::run` meets its contract: only after `go`.
 use mathlib.Core.Path.{_≡_, _∙_}
 use mathlib.Core.Bool.{true, false}
+use borrow.Author.Needs.{needs}
 use borrow.Author.Tests.{not-true, not-false}
 use Rattle.rehearsal.specs.Session.{runOf}
-use borrow.Author.Needs.{needs}
 use Rattle.rehearsal.proofs.Session.run.Statement.{statement}
 use Rattle.rehearsal.proofs.Session.run.Tie as tie
 
--- src/lib.rt:186:13
-bad-requires : tie.Need-bad-requires
-bad-requires c κs = search needs
+shut : (c : tie.Then1) → c .before .before .args .self .opened ≡ false
+shut c = not-true _ (c .if1 .taken)
 
--- src/lib.rt:186:13
+opened : (c : tie.Else1) → c .before .before .args .self .opened ≡ true
+opened c = not-false _ (c .if1 .left)
+
 returns : tie.Need-returns
 unfolding runOf
-returns c =
-    let shut : c .before .before .before .args .self .opened ≡ false = not-true _ (c .before .if1 .taken) in
-    c .bad .ensures ∙ rw shut
+returns c = c .bad .ensures ∙ rw (shut (c .before))
 
--- src/lib.rt:182:5
 returns-2 : tie.Need-returns-2
 unfolding runOf
-returns-2 c =
-    let opened : c .before .before .args .self .opened ≡ true = not-false _ (c .if1 .left) in
-    rw opened
+returns-2 c = rw (opened c)
 
 pub run-spec : {M : Type 1} → statement M
-run-spec = tie.close (tie.spec bad-requires returns returns-2)
+run-spec = tie.close (tie.spec (λ c κs. search needs) returns returns-2)

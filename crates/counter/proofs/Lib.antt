@@ -1,3 +1,0 @@
-pub mod Meshes
-pub mod MeshPromises
-pub mod Whys

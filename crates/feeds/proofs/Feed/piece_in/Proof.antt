@@ -1,0 +1,68 @@
+-- `feeds::Feed::piece_in` meets its contract: each return goes by the tests that led there.
+use mathlib.Core.Path.{_≡_, sym, ap, _∙_}
+use mathlib.Core.Bool.{true, _||_}
+use Prim.Native.Nat.{_+_}
+use native.Mathlib.Omega.{arith}
+use lib.Dec.{leb, ltb, eqb}
+use borrow.Author.Needs.{needs}
+use borrow.Author.Tests.{lt-leb, le-leb, ltb-true, ltb-false}
+use Rattle.lists.proofs.Tests.{passes, fails, last}
+use Rattle.feeds.specs.Pieces.{pieceIn}
+use Rattle.feeds.proofs.Feed.piece_in.Statement.{statement}
+use Rattle.feeds.proofs.Feed.piece_in.Tie as tie
+
+-- what is owed is not more than the work
+owes :
+    (c : tie.Else1) →
+    leb (c .before .before .args .self .owes .0) (c .before .before .args .self .plan .work .0) ≡ true
+owes c =
+    let f = c .before .before .args .self in
+    let most = ltb-false (f .plan .work .0) (f .owes .0) (sym (c .before .is-longer .ensures) ∙ c .if1 .left) in
+    le-leb (f .owes .0) (f .plan .work .0) most
+
+-- whether the clock is below the offset, as the code told it
+early :
+    (c : tie.After-is-after) →
+    c .is-after .result
+    ≡ ltb (c .before .before .before .before .args .clock .0) (c .before .before .before .before .args .self .plan .offset .0)
+early c =
+    let clock = c .before .before .before .before .args .clock .0 in
+    let offset = c .before .before .before .before .args .self .plan .offset .0 in
+    let sum : c .before .plus .result .0 ≡ 0 + offset = ap (λ t. t .0) (c .before .plus .ensures) in
+    let first : c .before .plus .result .0 ≡ offset = omega arith in
+    c .is-after .ensures ∙ ap (ltb clock) first
+
+returns : tie.Need-returns
+unfolding pieceIn
+returns c =
+    let f = c .before .before .args .self in
+    let more = ltb-true (f .plan .work .0) (f .owes .0) (sym (c .before .is-longer .ensures) ∙ c .if1 .taken) in
+    fails _ _ (lt-leb (f .owes .0) (f .plan .work .0) more)
+
+returns-2 : tie.Need-returns-2
+unfolding pieceIn
+returns-2 c =
+    let f = c .before .before .before .before .before .before .args .self in
+    let below = ltb-true _ (f .plan .offset .0) (sym (early (c .before .before)) ∙ c .before .if2 .taken) in
+    passes _ _ _ (owes (c .before .before .before .before))
+    (last _ _ (c .is-none .ensures ∙ sym (ap (λ b. b || eqb (f .owes .0) 0) (lt-leb (f .plan .offset .0) _ below))))
+
+returns-3 : tie.Need-returns-3
+unfolding pieceIn
+returns-3 c =
+    let f = c .before .before .before .before .before .args .self in
+    let reached = ltb-false _ (f .plan .offset .0) (sym (early (c .before)) ∙ c .if2 .left) in
+    passes _ _ _ (owes (c .before .before .before))
+    (last _ _ (sym (ap (λ b. b || eqb (f .owes .0) 0) (le-leb (f .plan .offset .0) _ reached))))
+
+pub piece-in-spec : {M : Type 1} → statement M
+piece-in-spec =
+    tie.close
+    (tie.spec
+    (λ c κs. search needs)
+    returns
+    (λ c κs. search needs)
+    (λ c κs. search needs)
+    (λ c κs. search needs)
+    returns-2
+    returns-3)

@@ -1,0 +1,59 @@
+-- `feeds::Feeds::pieces_in` meets its contract: the pieces are all in order exactly if those still to look at are.
+use mathlib.Core.Path.{_≡_, refl, sym, _∙_}
+use Prim.Native.Nat.{_-_, _≤_}
+use native.Mathlib.Omega.{arith}
+use borrow.Author.Needs.{needs}
+use borrow.Author.Tests.{not-true, not-false}
+use lib.ListN.{length, drop}
+use Rattle.lists.specs.Lists.{every}
+use Rattle.lists.proofs.Places.{length-mapped, next-live, no-more-live, every-fails, every-goes-on, every-passes}
+use Rattle.feeds.specs.Feeds.{inUse, noFeed}
+use Rattle.feeds.specs.Pieces.{pieceIn}
+use Rattle.feeds.proofs.Feeds.pieces_in.Statement.{statement}
+use Rattle.feeds.proofs.Feeds.pieces_in.Tie as tie
+
+abbrev Inv-loop : tie.InvT-loop
+Inv-loop clock self count i₀ i = (i ≤ count) × (every (pieceIn clock) (inUse self) ≡ every (pieceIn clock) (drop i (inUse self)))
+
+abbrev μ-loop : tie.MeasureT-loop
+μ-loop clock self count i₀ i = count - i
+
+returns : tie.Need-returns Inv-loop μ-loop
+returns c =
+    let s = c .before .before .before .before .before .args .t1 .feeds in
+    let long : length s ≡ 16 = search (needs, length-mapped) in
+    every-fails _ _ _ (c .before .before .before .before .loop .inv .1) _ _
+    (next-live s _ _ noFeed (c .before .before .before .loop-test .taken) (omega arith))
+    (sym (c .before .piece-in .ensures) ∙ not-true _ (c .if1 .taken))
+
+loop-again : tie.Need-loop-again Inv-loop μ-loop
+loop-again c =
+    let s = c .before .before .before .before .before .args .t1 .feeds in
+    let long : length s ≡ 16 = search (needs, length-mapped) in (
+      omega arith,
+      every-goes-on _ _ _ (c .before .before .before .before .loop .inv .1) _ _
+          (next-live s _ _ noFeed (c .before .before .before .loop-test .taken) (omega arith))
+          (sym (c .before .piece-in .ensures) ∙ not-false _ (c .if1 .left)),
+    )
+
+returns-2 : tie.Need-returns-2 Inv-loop μ-loop
+returns-2 c =
+    let s = c .before .before .args .t1 .feeds in
+    let long : length s ≡ 16 = search (needs, length-mapped) in
+    every-passes _ _ _ (c .before .loop .inv .1) (no-more-live s _ _ (c .loop-test .left) (omega arith))
+
+pub pieces-in-spec : {M : Type 1} → statement M
+pieces-in-spec =
+    tie.close
+    (tie.spec
+    Inv-loop
+    μ-loop
+    (λ c. (omega arith, refl))
+    (λ c. search needs)
+    (λ c. search needs)
+    (λ c κs. search needs)
+    returns
+    (λ c. search needs)
+    (λ c. search needs)
+    loop-again
+    returns-2)

@@ -1,0 +1,71 @@
+-- What hangs on the plans alone: feeds that differ in what their current pieces owe pass alike.
+use mathlib.Core.Path.{_≡_, refl, sym, ap, subst, _∙_}
+use mathlib.Core.List.{List, [], _∷_, map}
+use Prim.Native.Nat.{ℕ, suc, _≤_}
+use native.Mathlib.Omega.{arith}
+use lib.ListN.{length, length-map}
+use Rattle.ticks.specs.declared.Instant.{Instant}
+use Rattle.ticks.specs.Ticks.{mostRound}
+use Rattle.lists.specs.Lists.{Each, total}
+use Rattle.lists.proofs.Lists.{total-map, each-map, each-of-map}
+use Rattle.plans.specs.Plans.{PlanIn, share}
+use Rattle.feeds.specs.declared.Feed.{Feed}
+use Rattle.feeds.specs.Feeds.{FeedIn, plansOf}
+use Rattle.feeds.specs.Round.{IsRound, periods, roundOf, load}
+use Rattle.feeds.specs.Lines.{Passing}
+use Rattle.feeds.specs.Pieces.{arrived, rested, served}
+
+periods-of : (fs : List Feed) → periods fs ≡ map (λ p. p .period .0) (plansOf fs)
+periods-of [] = refl
+periods-of (f ∷ fs) = ap (f .plan .period .0 ∷_) (periods-of fs)
+
+module _ (fs gs : List Feed) (same : plansOf fs ≡ plansOf gs) where
+  pub same-length : length fs ≡ length gs
+  same-length = sym (length-map fs (λ f. f .plan)) ∙ ap length same ∙ length-map gs (λ f. f .plan)
+
+  pub same-within : Each FeedIn fs → Each FeedIn gs
+  same-within h =
+      each-of-map PlanIn (λ f. f .plan) gs (subst (Each PlanIn) same (each-map PlanIn (λ f. f .plan) fs h))
+
+  pub same-periods : periods fs ≡ periods gs
+  same-periods = periods-of fs ∙ ap (map (λ p. p .period .0)) same ∙ sym (periods-of gs)
+
+  pub same-load : (R : ℕ) → load R fs ≡ load R gs
+  same-load R =
+      sym (total-map (share R) (λ f. f .plan) fs) ∙ ap (total (share R)) same ∙ total-map (share R) (λ f. f .plan) gs
+
+  pub same-passing : Passing fs → Passing gs
+  same-passing h =
+      let many = same-length in
+      record {
+        few = omega (arith, h .few);
+        within = same-within (h .within);
+        short = subst (λ ps. roundOf ps ≤ mostRound) same-periods (h .short);
+        round = subst (λ ps. IsRound (roundOf ps) ps) same-periods (h .round);
+        carried = subst (λ ps. load (roundOf ps) gs ≤ roundOf ps) same-periods
+            (subst (λ n. n ≤ roundOf (periods fs)) (same-load (roundOf (periods fs))) (h .carried));
+      }
+
+-- what comes, is rested or is served changes no plan
+pub arrived-plans : (x : Instant) (fs : List Feed) → plansOf (map (arrived x) fs) ≡ plansOf fs
+unfolding arrived
+arrived-plans x [] = refl
+arrived-plans x (f ∷ fs) = ap (f .plan ∷_) (arrived-plans x fs)
+
+pub rested-plans : (p k : ℕ) (fs : List Feed) → plansOf (rested p k fs) ≡ plansOf fs
+rested-plans p k [] = refl
+rested-plans p k (f ∷ fs) = ap (f .plan ∷_) (rested-plans p (suc k) fs)
+
+pub served-plans : (p k : ℕ) (fs : List Feed) → plansOf (served p k fs) ≡ plansOf fs
+served-plans p k [] = refl
+served-plans p k (f ∷ fs) = ap (f .plan ∷_) (served-plans p (suc k) fs)
+
+-- nor how many feeds there are
+pub length-arrived : (x : Instant) (fs : List Feed) → length (map (arrived x) fs) ≡ length fs
+length-arrived x fs = length-map fs (arrived x)
+
+pub length-rested : (p k : ℕ) (fs : List Feed) → length (rested p k fs) ≡ length fs
+length-rested p k fs = same-length (rested p k fs) fs (rested-plans p k fs)
+
+pub length-served : (p k : ℕ) (fs : List Feed) → length (served p k fs) ≡ length fs
+length-served p k fs = same-length (served p k fs) fs (served-plans p k fs)

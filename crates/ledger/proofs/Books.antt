@@ -1,0 +1,99 @@
+-- Reading a state as a book and writing a book into it undo one another.
+use mathlib.Core.Path.{_≡_, refl, sym, ap, _∙_}
+use mathlib.Core.List.{List, [], _∷_, map}
+use Prim.Native.Nat.{ℕ, suc}
+use native.Mathlib.Omega.{arith}
+use lib.ListN.{length, getD, drop, length-map}
+use Rattle.ticks.specs.Ticks.{ticks, instant}
+use Rattle.feeds.specs.declared.Feed.{Feed}
+use Rattle.feeds.specs.Feeds.{owing, inUse, plansOf, feedsOf}
+use Rattle.feeds.proofs.Passing.{in-use-of}
+use Rattle.jobs.specs.declared.Job.{Job}
+use Rattle.jobs.specs.Jobs.{live, tableOf}
+use Rattle.jobs.proofs.Places.{live-of}
+use Rattle.edf.specs.Book as edf
+use Rattle.answers.specs.declared.Who.{Who}
+use Rattle.answers.specs.declared.Who.the-variants as who
+use Rattle.ledger.specs.declared.Ledger.{Ledger}
+use Rattle.ledger.specs.State.{InOrder}
+use Rattle.ledger.specs.Books.{bookPlan, bookFeed, bookFeeds, bookJob, bookOf, jobOf, owingAs, rewritten, whoOf, whoIs, SameFeeds}
+
+-- the heads and the tails of lists that are the same
+module _ {A : Type 0} (x y : A) (xs ys : List A) (e : x ∷ xs ≡ y ∷ ys) where
+  head-same : x ≡ y
+  head-same = ap (λ l. getD l 0 x) e
+
+  tail-same : xs ≡ ys
+  tail-same = ap (λ l. drop 1 l) e
+
+-- what is owed is written back as it was
+pub owing-as-read : (k : ℕ) (fs : List Feed) → owingAs (bookFeeds k fs) fs ≡ fs
+owing-as-read k [] = refl
+owing-as-read k (f ∷ fs) = ap (f ∷_) (owing-as-read (suc k) fs)
+
+-- no plan changes
+pub owing-as-plans : (gs : List edf.Feed) (fs : List Feed) → plansOf (owingAs gs fs) ≡ plansOf fs
+owing-as-plans [] fs = refl
+owing-as-plans (g ∷ gs) [] = refl
+owing-as-plans (g ∷ gs) (f ∷ fs) = ap (f .plan ∷_) (owing-as-plans gs fs)
+
+pub length-owing-as : (gs : List edf.Feed) (fs : List Feed) → length (owingAs gs fs) ≡ length fs
+length-owing-as gs fs = sym (length-map (owingAs gs fs) (λ f. f .plan)) ∙ ap length (owing-as-plans gs fs) ∙ length-map fs (λ f. f .plan)
+
+-- feeds of the same plans are written alike
+pub owing-as-alike : (gs : List edf.Feed) (fs hs : List Feed) → length gs ≡ length fs → plansOf fs ≡ plansOf hs → owingAs gs fs ≡ owingAs gs hs
+owing-as-alike [] [] [] l e = refl
+owing-as-alike [] [] (h ∷ hs) l e = absurd (omega (arith, ap length e))
+owing-as-alike [] (f ∷ fs) hs l e = absurd (omega arith)
+owing-as-alike (g ∷ gs) [] hs l e = absurd (omega arith)
+owing-as-alike (g ∷ gs) (f ∷ fs) [] l e = absurd (omega (arith, ap length e))
+owing-as-alike (g ∷ gs) (f ∷ fs) (h ∷ hs) l e =
+    λ i. record { plan = head-same (f .plan) (h .plan) (plansOf fs) (plansOf hs) e i; owes = ticks (g .owes) }
+    ∷ owing-as-alike gs fs hs (omega arith) (tail-same (f .plan) (h .plan) (plansOf fs) (plansOf hs) e) i
+
+-- feeds of the book at the state's positions and by its plans are read as they were
+pub read-owing-as : (k : ℕ) (gs : List edf.Feed) (fs : List Feed) → edf.positions gs ≡ edf.positions (bookFeeds k fs)
+    → edf.plans gs ≡ edf.plans (bookFeeds k fs) → bookFeeds k (owingAs gs fs) ≡ gs
+read-owing-as k [] [] p q = refl
+read-owing-as k [] (f ∷ fs) p q = absurd (omega (arith, ap length p))
+read-owing-as k (g ∷ gs) [] p q = absurd (omega (arith, ap length p))
+read-owing-as k (g ∷ gs) (f ∷ fs) p q =
+    let at = head-same (g .position) k (edf.positions gs) (edf.positions (bookFeeds (suc k) fs)) p in
+    let plan = head-same (g .plan) (bookPlan (f .plan)) (edf.plans gs) (edf.plans (bookFeeds (suc k) fs)) q in
+    let rest = read-owing-as (suc k) gs fs (tail-same (g .position) k (edf.positions gs) (edf.positions (bookFeeds (suc k) fs)) p) (tail-same (g .plan) (bookPlan (f .plan)) (edf.plans gs) (edf.plans (bookFeeds (suc k) fs)) q) in
+    λ i. record { position = sym at i; plan = sym plan i; owes = g .owes } ∷ rest i
+
+pub jobs-of-book : (js : List Job) → map jobOf (map bookJob js) ≡ js
+jobs-of-book [] = refl
+jobs-of-book (j ∷ js) = ap (j ∷_) (jobs-of-book js)
+
+pub book-of-jobs : (js : List edf.Job) → map bookJob (map jobOf js) ≡ js
+book-of-jobs [] = refl
+book-of-jobs (j ∷ js) = ap (j ∷_) (book-of-jobs js)
+
+-- WRITTEN INTO THE STATE, A BOOK IS READ AS IT WAS
+pub book-of-rewritten : (l : Ledger) (b : edf.Book) → SameFeeds l b → bookOf (rewritten l b) ≡ b
+book-of-rewritten l b s =
+    let gs = owingAs (b .feeds) (inUse (l .feeds)) in
+    let fs : bookFeeds 1 (inUse (feedsOf gs)) ≡ b .feeds
+    = ap (bookFeeds 1) (in-use-of gs) ∙ read-owing-as 1 (b .feeds) (inUse (l .feeds)) (s .positions) (s .plans) in
+    let js : map bookJob (live (tableOf (map jobOf (b .jobs)))) ≡ b .jobs
+    = ap (map bookJob) (live-of (map jobOf (b .jobs))) ∙ book-of-jobs (b .jobs) in
+    λ i. record { clock = b .clock; feeds = fs i; jobs = js i }
+
+-- A STATE IS WRITTEN BACK FROM ITS OWN BOOK AS IT WAS
+pub rewritten-own : (l : Ledger) → InOrder l → rewritten l (bookOf l) ≡ l
+rewritten-own l h =
+    let fs = ap feedsOf (owing-as-read 1 (inUse (l .feeds))) ∙ sym (h .tidyFeeds .filled) in
+    let js = ap tableOf (jobs-of-book (live (l .table))) ∙ sym (h .tidyTable .filled) in
+    λ i. record { clock = l .clock; feeds = fs i; table = js i }
+
+pub who-back : (w : edf.Who) → whoOf (whoIs w) ≡ w
+who-back (edf.job n) = refl
+who-back (edf.feed p) = refl
+who-back edf.idle = refl
+
+pub who-again : (w : Who) → whoIs (whoOf w) ≡ w
+who-again (who.Job n) = refl
+who-again (who.Feed p) = refl
+who-again who.Idle = refl

@@ -1,0 +1,3 @@
+-- The laws that every crate above needs.
+pub mod Divides
+pub mod Plans

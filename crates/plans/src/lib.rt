@@ -1,0 +1,100 @@
+// A printer's plan: how its layers come and when each is due. Its limits, the time since a release, the next release and
+// the deadline, what it wants in a round; and Euclid's rule, under the round's common multiple.
+// It must not know what a piece still owes, nor how the clock moves.
+use ticks::Instant;
+use ticks::Length;
+
+pub mod euclid;
+
+ghost use mathlib.Core.Path.{_≡_};
+ghost use Prim.Native.Nat.{_*_, _≤_, _<_, _^_};
+ghost use Rattle.ticks.specs.Ticks.{mostFeed, instant, ticks};
+ghost use Rattle.plans.specs.Plans.{noPlan, planIn, unusedPlan, PlanIn, Shareable, leadOf, since, next, due, share};
+
+// A piece of `work` ticks comes every `period` ticks, at the instants that leave the remainder `offset`.
+#[repr(C)]
+pub struct Plan {
+    pub period: Length,
+    pub work: Length,
+    pub offset: Length,
+}
+
+impl Plan {
+    // The plan of a place that no feed has.
+    pub const NONE: Plan = Plan {
+        period: Length::NONE,
+        work: Length::NONE,
+        offset: Length::NONE,
+    };
+
+    pub fn none() -> Plan
+        ensures { λ r. ⌜ r ≡ noPlan ⌝ }
+    {
+        Plan::NONE
+    }
+
+    // Line 2 for one plan.
+    pub fn within(self) -> bool
+        ensures { λ r. ⌜ r ≡ planIn self ⌝ }
+    {
+        if !self.period.suits_feed() {
+            return false;
+        }
+        if !self.work.suits_feed() {
+            return false;
+        }
+        self.period.is_longer(self.offset)
+    }
+
+    pub fn is_none(self) -> bool
+        ensures { λ r. ⌜ r ≡ unusedPlan self ⌝ }
+    {
+        if !self.period.is_none() {
+            return false;
+        }
+        if !self.work.is_none() {
+            return false;
+        }
+        self.offset.is_none()
+    }
+
+    // How long after its release a piece is due.
+    pub fn lead(self) -> Length
+        ensures { λ r. ⌜ r ≡ leadOf self ⌝ }
+    {
+        self.period
+    }
+
+    // How long ago the current piece came: no ticks at a release.
+    pub fn since(self, at: Instant) -> Length
+        requires { ⌜ PlanIn self × (at .0 < 2 ^ 63) ⌝ }
+        ensures { λ r. ⌜ r ≡ ticks (since self (at .0)) ⌝ }
+    {
+        at.plus(self.period.less(self.offset))
+            .remainder(self.period)
+    }
+
+    // When the next piece comes.
+    pub fn next(self, clock: Instant) -> Instant
+        requires { ⌜ PlanIn self × (clock .0 < 2 ^ 63) ⌝ }
+        ensures { λ r. ⌜ r ≡ instant (next self (clock .0)) ⌝ }
+    {
+        clock.plus(self.period.less(self.since(clock)))
+    }
+
+    // When the current piece is due.
+    pub fn due(self, clock: Instant) -> Instant
+        requires { ⌜ PlanIn self × (clock .0 < 2 ^ 63) ⌝ }
+        ensures { λ r. ⌜ r ≡ instant (due self (clock .0)) ⌝ }
+    {
+        clock.plus(self.lead().less(self.since(clock)))
+    }
+
+    // What the pieces of a round want together.
+    pub fn share(self, round: Length) -> u64
+        requires { ⌜ Shareable self (round .0) ⌝ }
+        ensures { λ r. ⌜ (r ≡ share (round .0) self) × (r ≤ mostFeed * mostFeed) ⌝ }
+    {
+        self.work.0 * (round.0 / self.period.0)
+    }
+}

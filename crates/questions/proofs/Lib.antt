@@ -1,0 +1,3 @@
+pub mod Meshes
+pub mod Whys
+pub mod Told
