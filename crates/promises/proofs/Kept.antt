@@ -1,0 +1,161 @@
+-- Demand 3 is kept.
+use mathlib.Core.Path.{_≡_, refl, sym, ap, _∙_, subst}
+use mathlib.Core.Logic.{_⊎_, inl, inr}
+use mathlib.Core.List.{List, [], _∷_, _++_}
+use Prim.Native.Nat.{ℕ, _+_, _≤_}
+use native.Mathlib.Omega.{arith}
+use Rattle.ticks.specs.Ticks.{instant}
+use Rattle.feeds.specs.Lines.{feedsIn}
+use Rattle.mesh.specs.Bands.{workOf}
+use Rattle.mesh.specs.Meshes.{trianglesOf, meshLines}
+use Rattle.answers.specs.declared.Verdict.{Verdict}
+use Rattle.answers.specs.declared.Verdict.the-variants.{Yes, No}
+use Rattle.answers.specs.Answers.{firstOf, onYes}
+use Rattle.answers.proofs.Answers.{yes-is-not-no}
+use Rattle.edf.specs.Book.{Book, job, feed}
+use Rattle.edf.specs.Runs.{Did, after, Allowed, named}
+use Rattle.edf.specs.Kept as edf
+use Rattle.edf.specs.Load.{opened}
+use Rattle.edf.proofs.Runs.{allowed-append, run-is-good}
+use Rattle.edf.proofs.Kept.{job-is-kept, piece-is-kept}
+use Rattle.edf.proofs.Promises as edfPromises
+use Rattle.edf.proofs.Service.{Has}
+use Rattle.ledger.specs.Books.{bookFeeds, bookJob}
+use Rattle.desk.specs.declared.Desk.{Desk}
+use Rattle.desk.specs.declared.Answer.{Answer}
+use Rattle.desk.specs.State.{book, empty, Good}
+use Rattle.desk.specs.Opening.{openLines, openedDesk, openedOf}
+use Rattle.desk.specs.Calls.{disorder}
+use Rattle.desk.specs.Asking.{requested, Asked}
+use Rattle.questions.specs.Meshes.{AskedMesh}
+use Rattle.desk.proofs.Reachable.{opened-book}
+use Rattle.desk.proofs.Good.{opening-is-good, ask-is-good, ask-book}
+use Rattle.promises.specs.Runs.{Call, Calls, Made, allows, Ends, Rests, opening, asked, askedMesh}
+use Rattle.promises.specs.Kept.{EveryStateIsInOrder, EveryYesIsKept, EveryMeshYesIsKept, DoneByItsDeadline, EveryPieceIsKept, EveryOpenedPieceIsKept}
+use Rattle.promises.specs.Kept.{ServedByItsDeadline, EveryReportIsRight, EveryMeshReportIsRight, EveryPieceReportIsRight, EveryOpenedPieceReportIsRight, JobKept, Over}
+use Rattle.promises.proofs.System.{desks}
+
+pub every-state-is-in-order : EveryStateIsInOrder
+unfolding EveryStateIsInOrder
+every-state-is-in-order xs start cs m =
+    let g = run-is-good desks cs (opening xs start) (opening-is-good xs start) m in
+    (g .order, g .sound)
+
+-- what an ask that was made and answered yes leaves: a good desk with the job live
+module _ (d : Desk) (g : Good d) (number work lead : ℕ) (r : Answer) (a : Asked d number work lead r) (y : r .verdict ≡ Yes) where
+  asked-live : edf.Live number (d .ledger .clock .0 + lead) work (book (r .desk))
+  asked-live = subst (edf.Live number (d .ledger .clock .0 + lead) work) (sym (ask-book d g number work lead r a y)) (edfPromises.taken-is-live (book d) (bookJob (requested d number work lead)))
+
+  asked-kept : (later : Calls) → Made later (r .desk) → JobKept number (d .ledger .clock .0 + lead) work later (r .desk)
+  asked-kept later m = job-is-kept desks later (r .desk) number (d .ledger .clock .0 + lead) work (ask-is-good d g number work lead r a) m asked-live
+
+-- calls put together again
+made-of : (before : Calls) (x : Did Call Desk) (later : Calls) (d : Desk) → Made before d → allows (x .call) (after before d) (x .came) → Made later (x .came .state) → Made (before ++ (x ∷ later)) d
+unfolding after Allowed
+made-of [] x later d m a l = (a, l)
+made-of (b ∷ before) x later d m a l = (m .0, made-of before x later (b .came .state) (m .1) a l)
+
+-- either the first, as told of it, or the second
+report : {A B X : Type 0} → A ⊎ B → (A → X) → X ⊎ B
+report (inl k) f = inl (f k)
+report (inr k) f = inr k
+
+-- an ask with a mesh that is answered yes is an ordinary ask with the work of its band
+mesh-yes-is-asked : (d : Desk) (s : List ℕ) (size number lead : ℕ) (r : Answer) → AskedMesh d s size number lead r → r .verdict ≡ Yes
+    → Asked d number (workOf (trianglesOf s)) lead r
+mesh-yes-is-asked d s size number lead r a y = go (firstOf (disorder d ∷ meshLines s size)) refl
+  where
+    go : (v : Verdict) → firstOf (disorder d ∷ meshLines s size) ≡ v → Asked d number (workOf (trianglesOf s)) lead r
+    go Yes e = a .asked e
+    go (No x) e = absurd (yes-is-not-no x (sym y ∙ ap (λ k. k .verdict) (a .stopped x e)))
+
+-- calls before an ask, the ask, and the calls after it
+module _ (xs : List ℕ) (start : ℕ) (before : Calls) (x : Did Call Desk) (later : Calls) (m : Made (before ++ (x ∷ later)) (opening xs start)) where
+  parts : Made before (opening xs start) × Made (x ∷ later) (after before (opening xs start))
+  parts = allowed-append allows before (x ∷ later) (opening xs start) m
+
+  good-before : Good (after before (opening xs start))
+  good-before = run-is-good desks before (opening xs start) (opening-is-good xs start) (parts .0)
+
+pub every-yes-is-kept : EveryYesIsKept
+unfolding EveryYesIsKept Allowed allows
+every-yes-is-kept xs start before number work lead r later m y =
+    let p = parts xs start before (asked number work lead r) later m in
+    asked-kept (after before (opening xs start)) (good-before xs start before (asked number work lead r) later m) number work lead r (p .1 .0 .0) y later (p .1 .1)
+
+pub every-mesh-yes-is-kept : EveryMeshYesIsKept
+unfolding EveryMeshYesIsKept Allowed allows
+every-mesh-yes-is-kept xs start before s size number lead r later m y =
+    let p = parts xs start before (askedMesh s size number lead r) later m in
+    let a = mesh-yes-is-asked (after before (opening xs start)) s size number lead r (p .1 .0 .0) y in
+    asked-kept (after before (opening xs start)) (good-before xs start before (askedMesh s size number lead r) later m) number (workOf (trianglesOf s)) lead r a y later (p .1 .1)
+
+pub done-by-its-deadline : DoneByItsDeadline
+unfolding DoneByItsDeadline
+done-by-its-deadline n due work cs d (inl k) h = absurd (omega (arith, k .ahead))
+done-by-its-deadline n due work cs d (inr k) h = k
+
+-- an opening that is not refused, read as a book
+opening-book : (xs : List ℕ) (start : ℕ) → openedOf xs start .verdict ≡ Yes → book (opening xs start) ≡ opened start (bookFeeds 1 (feedsIn xs))
+unfolding openedOf
+opening-book xs start y = ap (λ v. book (onYes v (openedDesk (feedsIn xs) (instant start)) empty)) y ∙ opened-book (feedsIn xs) (instant start)
+
+pub every-piece-is-kept : EveryPieceIsKept
+unfolding EveryPieceIsKept
+every-piece-is-kept xs start y f lent before x later m t z =
+    let has = subst (Has f) (sym (opening-book xs start y)) (edfPromises.opening-has start (bookFeeds 1 (feedsIn xs)) f lent) in
+    edfPromises.a-released-piece-is-kept desks (opening xs start) (opening-is-good xs start) before x later f has m t z
+
+pub every-opened-piece-is-kept : EveryOpenedPieceIsKept
+unfolding EveryOpenedPieceIsKept
+every-opened-piece-is-kept xs start y f lent z later m =
+    edfPromises.an-opened-piece-is-kept desks (opening xs start) (opening-is-good xs start) start (bookFeeds 1 (feedsIn xs)) f lent (opening-book xs start y) z later m
+
+-- what an answer tells of a job that was asked for and taken, or it was over before
+asked-reported : (d : Desk) → Good d → (number work lead : ℕ) (r : Answer) → Asked d number work lead r → r .verdict ≡ Yes
+    → (since-then : Calls) (x : Did Call Desk) (later : Calls) → Made (since-then ++ (x ∷ later)) (r .desk)
+    → x .came .who ≡ job number → 1 ≤ x .came .ticks
+    → (x .came .owes + named (job number) (since-then ++ (x ∷ [])) ≡ work) ⊎ Over number (d .ledger .clock .0 + lead) work since-then (r .desk)
+asked-reported d g number work lead r a y since-then x later m w h =
+    let right = edfPromises.a-job's-report-is-right desks (r .desk) (ask-is-good d g number work lead r a) since-then x later m number (d .ledger .clock .0 + lead) work in
+    report (asked-kept d g number work lead r a y since-then (allowed-append allows since-then (x ∷ later) (r .desk) m .0)) (λ k. right k w h)
+
+pub every-report-is-right : EveryReportIsRight
+unfolding EveryReportIsRight Allowed allows
+every-report-is-right xs start before number work lead r since-then x later m y w h =
+    let p = parts xs start before (asked number work lead r) (since-then ++ (x ∷ later)) m in
+    let g = good-before xs start before (asked number work lead r) (since-then ++ (x ∷ later)) m in
+    asked-reported (after before (opening xs start)) g number work lead r (p .1 .0 .0) y since-then x later (p .1 .1) w h
+
+pub every-mesh-report-is-right : EveryMeshReportIsRight
+unfolding EveryMeshReportIsRight Allowed allows
+every-mesh-report-is-right xs start before s size number lead r since-then x later m y w h =
+    let d = after before (opening xs start) in
+    let p = parts xs start before (askedMesh s size number lead r) (since-then ++ (x ∷ later)) m in
+    let g = good-before xs start before (askedMesh s size number lead r) (since-then ++ (x ∷ later)) m in
+    asked-reported d g number (workOf (trianglesOf s)) lead r (mesh-yes-is-asked d s size number lead r (p .1 .0 .0) y) y since-then x later (p .1 .1) w h
+
+pub served-by-its-deadline : ServedByItsDeadline
+unfolding ServedByItsDeadline
+served-by-its-deadline p due work cs d (inl k) h = absurd (omega (arith, k .ahead))
+served-by-its-deadline p due work cs d (inr k) h = k
+
+pub every-piece-report-is-right : EveryPieceReportIsRight
+unfolding EveryPieceReportIsRight EveryPieceIsKept Allowed
+every-piece-report-is-right xs start y f lent before released since-then x later m t z w h =
+    let p = parts xs start before released (since-then ++ (x ∷ later)) m in
+    let g = good-before xs start before released (since-then ++ (x ∷ later)) m in
+    let good = desks .follows released (after before (opening xs start)) g (p .1 .0) .0 in
+    let q = allowed-append allows since-then (x ∷ later) (released .came .state) (p .1 .1) in
+    let n = f .position in
+    let due = released .came .state .ledger .clock .0 + f .plan .lead in
+    let right = edfPromises.a-piece's-report-is-right desks (released .came .state) good since-then x later (p .1 .1) n due (f .plan .work) in
+    let kept = every-piece-is-kept xs start y f lent before released since-then (made-of before released since-then (opening xs start) (p .0) (p .1 .0) (q .0)) t z in
+    report kept (λ k. right k w h)
+
+pub every-opened-piece-report-is-right : EveryOpenedPieceReportIsRight
+unfolding EveryOpenedPieceReportIsRight EveryOpenedPieceIsKept
+every-opened-piece-report-is-right xs start y f lent z since-then x later m w h =
+    let d = opening xs start in
+    let right = edfPromises.a-piece's-report-is-right desks d (opening-is-good xs start) since-then x later m (f .position) (start + f .plan .lead) (f .plan .work) in
+    report (every-opened-piece-is-kept xs start y f lent z since-then (allowed-append allows since-then (x ∷ later) d m .0)) (λ k. right k w h)

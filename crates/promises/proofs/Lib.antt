@@ -1,0 +1,9 @@
+-- The theorems, in the order of the statements.
+pub mod System
+pub mod Total
+pub mod Exact
+pub mod Kept
+pub mod Load
+pub mod Finish
+pub mod Overbooked
+pub mod Examples

@@ -1,0 +1,75 @@
+-- The starred bench examples of the rules as one table, row by row and in their order: a row is an opening at instant 0 with
+-- what it answers, and calls from there on, each with what it answers. 0 is yes, any other number the refusal.
+use mathlib.Core.Path.{_≡_}
+use mathlib.Core.List.{List, [], _∷_}
+use Prim.Native.Nat.{ℕ}
+use Rattle.desk.specs.declared.Desk.{Desk}
+use Rattle.desk.specs.declared.Answer.{Answer}
+use Rattle.answers.specs.Answers.{answerOf}
+use Rattle.desk.specs.Opening.{openedOf}
+use Rattle.desk.specs.Calls.{restOf}
+use Rattle.desk.specs.Asking.{Asked}
+
+-- a call and what it answers: an ask by number, work and lead, or a rest by position
+pub data Said : Type 0 where
+  asks : ℕ → ℕ → ℕ → ℕ → Said
+  rests : ℕ → ℕ → Said
+
+pub record Row : Type 0 where
+  -- three numbers a feed: period, work, offset
+  pub feeds : List ℕ
+  pub opens : ℕ
+  pub calls : List Said
+
+abbrev pub row : List ℕ → ℕ → List Said → Row
+row feeds opens calls = record { feeds = feeds; opens = opens; calls = calls }
+
+-- the answer is this number, and so it goes on from the state that is handed back
+abbrev pub Then : ℕ → (Desk → Type 0) → Answer → Type 0
+Then answer Next r = (answerOf (r .verdict) ≡ answer) × Next (r .desk)
+
+-- each call answers so, on the state that the last one handed back: an ask in every answer that its contract allows
+unfoldable pub Goes : List Said → Desk → Type 0
+Goes [] d = Unit {0}
+Goes (asks number work lead answer ∷ cs) d = (r : Answer) → Asked d number work lead r → Then answer (Goes cs) r
+Goes (rests position answer ∷ cs) d = Then answer (Goes cs) (restOf d position)
+
+-- THE ONE STATEMENT
+unfoldable pub Holds : Row → Type 0
+Holds r = Then (r .opens) (Goes (r .calls)) (openedOf (r .feeds) 0)
+
+-- X of the bench examples
+abbrev pub x : List ℕ
+x = 4 ∷ 1 ∷ 0 ∷ 6 ∷ 2 ∷ 0 ∷ []
+
+-- feeds that want every tick
+abbrev pub everyTick : List ℕ
+everyTick = 2 ∷ 1 ∷ 0 ∷ 4 ∷ 2 ∷ 0 ∷ []
+
+-- THE TABLE
+abbrev pub table : List Row
+table =
+    -- X: work 3 lead 6 is taken; with work 4, 7 are owed by instant 6
+    row x 0 (asks 1 3 6 0 ∷ [])
+    ∷ row x 0 (asks 1 4 6 6 ∷ [])
+    -- a tick later there is room for it
+    ∷ row x 0 (asks 1 4 7 0 ∷ [])
+    -- by instant 12 the feeds leave 5 ticks, and by 13 one more
+    ∷ row x 0 (asks 1 5 12 0 ∷ [])
+    ∷ row x 0 (asks 1 6 12 6 ∷ [])
+    ∷ row x 0 (asks 1 6 13 0 ∷ [])
+    -- where the feeds want every tick, no lead is long enough
+    ∷ row everyTick 0 (asks 1 1 65536 6 ∷ [])
+    -- a layer that is rested leaves its tick
+    ∷ row everyTick 0 (rests 1 0 ∷ asks 1 1 1 0 ∷ [])
+    -- the job would be in time, and the layer late
+    ∷ row (4 ∷ 4 ∷ 0 ∷ []) 0 (asks 1 1 1 6 ∷ [])
+    -- the second job would be in time, and the first, promised before it, late
+    ∷ row [] 0 (asks 1 3 4 0 ∷ asks 2 2 2 6 ∷ [])
+    -- four numbers are no whole feeds
+    ∷ row (4 ∷ 1 ∷ 0 ∷ 6 ∷ []) 12 []
+    -- periods 40,319 and 2: the round is too long. The rules name the periods alone; these works and offsets break no line
+    ∷ row (40319 ∷ 1 ∷ 0 ∷ 2 ∷ 1 ∷ 0 ∷ []) 9 []
+    -- a half and two thirds are more than there is
+    ∷ row (2 ∷ 1 ∷ 0 ∷ 3 ∷ 2 ∷ 0 ∷ []) 10 []
+    ∷ []

@@ -1,0 +1,43 @@
+-- A STATE IN ORDER THAT IS OVERBOOKED ALL THE SAME, handed in by somebody: it gets 6 from every ask that passes the earlier
+-- lines, and its steps follow the step rule (Exact). A job that such a step makes late stays in the table, so the state handed
+-- back is out of order; a late piece gives way to the next.
+use mathlib.Core.Path.{_≡_}
+use mathlib.Core.Bool.{false}
+use Prim.Native.Nat.{ℕ, suc, _+_, _-_, _≤_, _<_}
+use Rattle.lists.specs.Lists.{Some}
+use Rattle.ticks.specs.Ticks.{ticks}
+use Rattle.answers.specs.declared.Refusal.the-variants.{DoesNotFit}
+use Rattle.answers.specs.declared.Verdict.the-variants.{Yes, No}
+use Rattle.answers.specs.Answers.{firstOf}
+use Rattle.edf.specs.Book.{Feed, job, same}
+use Rattle.edf.specs.Releases.{since}
+use Rattle.edf.specs.Fits.{Fits}
+use Rattle.edf.specs.Step.{runner}
+use Rattle.edf.specs.Kept.{Live, Current}
+use Rattle.ledger.specs.State.{Sized, inOrder}
+use Rattle.desk.specs.declared.Desk.{Desk}
+use Rattle.desk.specs.declared.Answer.{Answer}
+use Rattle.desk.specs.State.{book}
+use Rattle.desk.specs.Calls.{stepLines, stepOf}
+use Rattle.desk.specs.Asking.{askLines, Asked}
+
+-- what is promised already does not fit: every ask that passes lines 13 and 1 to 5 gets 6, and the desk is as it was
+unfoldable pub OverbookedTakesNothing : Type 0
+OverbookedTakesNothing =
+    (d : Desk) → Sized (d .ledger) → (Fits (book d) → ⊥)
+    → (number work lead : ℕ) (r : Answer) → firstOf (askLines d number (ticks work) (ticks lead)) ≡ Yes → Asked d number work lead r
+    → r ≡ record { desk = d; verdict = No DoesNotFit }
+
+-- a live job whose deadline the clock reaches with ticks still owed stays, owing them, and the state is out of order
+unfoldable pub ALateJobStays : Type 0
+ALateJobStays =
+    (d : Desk) → Sized (d .ledger) → firstOf (stepLines d) ≡ Yes
+    → (n due owes : ℕ) → Live n due owes (book d) → due ≤ suc (d .ledger .clock .0) → same (runner (book d) .who) (job n) < owes
+    → Live n due (owes - same (runner (book d) .who) (job n)) (book (stepOf d .desk)) × (inOrder (stepOf d .desk .ledger) ≡ false)
+
+-- at a feed's next release its current piece is the new one, owing all its work, whatever the old one still owed
+unfoldable pub ALatePieceGivesWay : Type 0
+ALatePieceGivesWay =
+    (d : Desk) → Sized (d .ledger) → firstOf (stepLines d) ≡ Yes
+    → (f : Feed) → Some (λ g. g ≡ f) (book d .feeds) → since (f .plan) (suc (d .ledger .clock .0)) ≡ 0
+    → Current (f .position) (suc (d .ledger .clock .0) + f .plan .lead) (f .plan .work) (book (stepOf d .desk))
