@@ -60,19 +60,19 @@ module _ (l : Ledger) (h : InOrder l) where
   -- a job that is out
   pub ended-ledger : (n : ℕ) (t : Table) → t ≡ tableOf (others n (live (l .table))) → moved l (l .clock) (l .feeds) t ≡ rewritten l (ending n (bookOf l))
   unfolding ending
-  ended-ledger n t e = λ i. record { clock = l .clock; feeds = feeds-back i; table = (e ∙ ap tableOf (others-read n (live (l .table)))) i }
+  ended-ledger n t e = λ i. moved l (l .clock) (feeds-back i) ((e ∙ ap tableOf (others-read n (live (l .table)))) i)
 
   -- a piece that rests
   pub rested-ledger : (p : ℕ) (s : Feeds) → s ≡ feedsOf (rested p 1 (inUse (l .feeds))) → moved l (l .clock) s (l .table) ≡ rewritten l (resting p (bookOf l))
   unfolding resting
-  rested-ledger p s e = λ i. record { clock = l .clock; feeds = (e ∙ ap feedsOf (rested-read p 1 (inUse (l .feeds)))) i; table = jobs-back i }
+  rested-ledger p s e = λ i. moved l (l .clock) ((e ∙ ap feedsOf (rested-read p 1 (inUse (l .feeds)))) i) (jobs-back i)
 
   -- a job that is taken
   pub taken-ledger : (j : Job) (t : Table) → t ≡ tableOf (live (l .table) ++ (j ∷ [])) → moved l (l .clock) (l .feeds) t ≡ rewritten l (taking (bookJob j) (bookOf l))
   unfolding taking
   taken-ledger j t e =
       let jobs = e ∙ ap tableOf (sym (jobs-of-book (live (l .table) ++ (j ∷ []))) ∙ ap (map jobOf) (jobs-append (live (l .table)) j)) in
-      λ i. record { clock = l .clock; feeds = feeds-back i; table = jobs i }
+      λ i. moved l (l .clock) (feeds-back i) (jobs i)
 
 -- a step of a state that is not in order
 pub step-stopped : (d : Desk) → inOrder (d .ledger) ≡ false

@@ -20,20 +20,22 @@ use Rattle.answers.specs.declared.Refusal.the-variants.{PastLast}
 use Rattle.answers.specs.declared.Verdict.the-variants.{Yes, No}
 use Rattle.answers.specs.Answers.{firstOf, isYes, onYes}
 use Rattle.answers.proofs.Answers.{stops, goes-on, goes-past, yes-both, yes-first, not-yes-before, on-no}
+use Rattle.ledger.specs.State as ledger
+use Rattle.ledger.specs.State.{moved}
 use Rattle.ledger.specs.Books.{bookFeeds, owingAs}
 use Rattle.ledger.proofs.Pieces.{arrived-opened}
 use Rattle.desk.specs.declared.Desk.{Desk}
 use Rattle.desk.specs.declared.Answer.{Answer}
-use Rattle.desk.specs.State.{empty}
+use Rattle.desk.specs.State.{empty, with}
 use Rattle.desk.specs.Opening.{startLine, openLines, openedDesk, Fresh, openedAt, openedOf}
 
 -- the pieces released at the opening instant are ready
 pub opened-ledger : (fs : List Feed) (clock : Instant) → Fresh fs
-    → _≡_ {A = Desk} (record { ledger = record { clock = clock; feeds = feedsOf (map (arrived clock) fs); table = tableOf [] } }) (openedDesk fs clock)
+    → with empty (moved ledger.empty clock (feedsOf (map (arrived clock) fs)) (tableOf [])) ≡ openedDesk fs clock
 unfolding opened
 opened-ledger fs clock z =
     let feeds = ap feedsOf (arrived-opened clock 1 fs z ∙ ap (owingAs (map (openedFeed (clock .0)) (bookFeeds 1 fs))) (sym (in-use-of fs))) in
-    λ i. record { ledger = record { clock = clock; feeds = feeds i; table = tableOf [] } }
+    λ i. with empty (moved ledger.empty clock (feeds i) (tableOf []))
 
 module _ (xs : List ℕ) (start : ℕ) where
   -- lines 12 and 8 stop it

@@ -54,7 +54,7 @@ rewritten-sized l b o few =
 module _ (l : Ledger) (b : edf.Book) (o : InOrder l) (h : Held l b) where
   pub good-rewritten : (d : Desk) → d .ledger ≡ rewritten l b → Sound b → Good d
   good-rewritten d e s =
-      subst Good (λ i. record { ledger = sym e i })
+      subst Good (λ i. state.with d (sym e i))
       (record {
         sized = rewritten-sized l b o (h .few);
         order = ledger.in-order-made (rewritten l b) (ledger.rewritten-in-order l b o h);

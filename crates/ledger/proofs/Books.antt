@@ -15,7 +15,7 @@ use Rattle.edf.specs.Book as edf
 use Rattle.answers.specs.declared.Who.{Who}
 use Rattle.answers.specs.declared.Who.the-variants as who
 use Rattle.ledger.specs.declared.Ledger.{Ledger}
-use Rattle.ledger.specs.State.{InOrder}
+use Rattle.ledger.specs.State.{moved, InOrder}
 use Rattle.ledger.specs.Books.{bookPlan, bookFeed, bookFeeds, bookJob, bookOf, jobOf, owingAs, rewritten, whoOf, whoIs, SameFeeds}
 
 -- the heads and the tails of lists that are the same
@@ -86,7 +86,7 @@ pub rewritten-own : (l : Ledger) → InOrder l → rewritten l (bookOf l) ≡ l
 rewritten-own l h =
     let fs = ap feedsOf (owing-as-read 1 (inUse (l .feeds))) ∙ sym (h .tidyFeeds .filled) in
     let js = ap tableOf (jobs-of-book (live (l .table))) ∙ sym (h .tidyTable .filled) in
-    λ i. record { clock = l .clock; feeds = fs i; table = js i }
+    λ i. moved l (l .clock) (fs i) (js i)
 
 pub who-back : (w : edf.Who) → whoOf (whoIs w) ≡ w
 who-back (edf.job n) = refl

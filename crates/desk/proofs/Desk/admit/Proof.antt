@@ -7,6 +7,7 @@ use Rattle.room.specs.Walk.{FitsSays}
 use Rattle.ledger.specs.State.{InOrder}
 use Rattle.ledger.specs.Books.{bookOf}
 use Rattle.ledger.proofs.InOrder.{in-order}
+use Rattle.desk.specs.State.{with}
 use Rattle.desk.specs.Asking.{with-job, Judged}
 use Rattle.desk.proofs.Calls.{taken-ledger}
 use Rattle.desk.proofs.Asking.{taken-in-order, taken-book}
@@ -35,7 +36,7 @@ returns c =
     let k = c .before .before in
     let start = k .before .before .before .before in
     let new = k .before .moved .ensures ∙ taken-ledger (start .args .self .ledger) (order start) (start .args .job) _ (k .before .before .taken .ensures) in
-    inl (says k .yes (c .before .if1 .taken), λ i. record { desk = (c .with .ensures ∙ (λ n. record { ledger = new n })) i; verdict = Yes })
+    inl (says k .yes (c .before .if1 .taken), λ i. record { desk = (c .with .ensures ∙ ap (with (start .args .self)) new) i; verdict = Yes })
 
 returns-2 : tie.Need-returns-2
 unfolding Judged

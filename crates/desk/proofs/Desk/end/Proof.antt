@@ -9,7 +9,7 @@ use Rattle.answers.proofs.Answers.{is-yes, yes-first, on-yes, on-no}
 use Rattle.ledger.specs.State.{Sized, InOrder}
 use Rattle.ledger.proofs.InOrder.{in-order}
 use Rattle.edf.specs.Calls.{ending}
-use Rattle.desk.specs.State.{book, rewritten}
+use Rattle.desk.specs.State.{book, with, rewritten}
 use Rattle.desk.specs.Calls.{endLines, endOf}
 use Rattle.desk.proofs.Calls.{ended-ledger}
 use Rattle.desk.proofs.Desk.end.Statement.{statement}
@@ -41,7 +41,7 @@ returns-2 c =
     let d = k .before .before .before .args .self in
     let n = k .before .before .before .args .number in
     let new = c .before .moved .ensures ∙ ended-ledger (d .ledger) (order k) n _ (c .before .before .end .ensures) in
-    let desk = c .with .ensures ∙ (λ i. record { ledger = new i }) ∙ sym (on-yes (firstOf (endLines d n)) (rewritten d (ending n (book d))) d (yes k)) in
+    let desk = c .with .ensures ∙ ap (with d) new ∙ sym (on-yes (firstOf (endLines d n)) (rewritten d (ending n (book d))) d (yes k)) in
     λ i. record { desk = desk i; verdict = k .before .before .end-stops .ensures i }
 
 pub end-spec : {M : Type 1} → statement M

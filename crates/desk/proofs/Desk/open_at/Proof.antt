@@ -10,7 +10,8 @@ use Rattle.feeds.proofs.Passing.{tidy-many}
 use Rattle.feeds.proofs.Lines.{yes-passing}
 use Rattle.answers.specs.Answers.{firstOf, isYes}
 use Rattle.answers.proofs.Answers.{is-yes, on-yes, on-no}
-use Rattle.desk.specs.State.{empty}
+use Rattle.ledger.specs.State.{moved}
+use Rattle.desk.specs.State.{empty, with}
 use Rattle.desk.specs.Opening.{openedDesk}
 use Rattle.desk.proofs.Opening.{opened-ledger}
 use Rattle.desk.proofs.Desk.open_at.Statement.{statement}
@@ -47,9 +48,10 @@ returns-2 c =
     let start = k .before .before .before in
     let fs = inUse (start .args .feeds) in
     let t = start .args .clock in
+    let k2 = c .before .before .before .before .before in
     let ledger = c .before .before .moved .ensures
-    ∙ (λ i. record { clock = t; feeds = c .before .before .before .before .arrive .ensures i; table = c .before .before .before .none3 .ensures i }) in
-    let desk = c .with .ensures ∙ (λ i. record { ledger = ledger i }) ∙ opened-ledger fs t (start .pre .1)
+    ∙ (λ i. moved (k2 .none2 .ensures i) t (c .before .before .before .before .arrive .ensures i) (c .before .before .before .none3 .ensures i)) in
+    let desk = c .with .ensures ∙ (λ i. with (c .before .none4 .ensures i) (ledger i)) ∙ opened-ledger fs t (start .pre .1)
     ∙ sym (on-yes (firstOf (feedLines fs)) (openedDesk fs t) empty (yes k)) in
     λ i. record { desk = desk i; verdict = k .before .before .sound .ensures i }
 

@@ -13,7 +13,7 @@ use Rattle.answers.proofs.Answers.{is-yes, yes-first, on-yes, on-no}
 use Rattle.ledger.specs.State.{Sized, InOrder}
 use Rattle.ledger.proofs.InOrder.{in-order}
 use Rattle.edf.specs.Calls.{resting}
-use Rattle.desk.specs.State.{book, rewritten}
+use Rattle.desk.specs.State.{book, with, rewritten}
 use Rattle.desk.specs.Calls.{restLines, restOf}
 use Rattle.desk.proofs.Calls.{rested-ledger}
 use Rattle.desk.proofs.Desk.rest.Statement.{statement}
@@ -45,7 +45,7 @@ returns-2 c =
     let d = k .before .before .before .args .self in
     let n = k .before .before .before .args .position in
     let new = c .before .moved .ensures ∙ rested-ledger (d .ledger) (order k) n _ (c .before .before .rest .ensures) in
-    let desk = c .with .ensures ∙ (λ i. record { ledger = new i }) ∙ sym (on-yes (firstOf (restLines d n)) (rewritten d (resting n (book d))) d (yes k)) in
+    let desk = c .with .ensures ∙ ap (with d) new ∙ sym (on-yes (firstOf (restLines d n)) (rewritten d (resting n (book d))) d (yes k)) in
     λ i. record { desk = desk i; verdict = k .before .before .rest-stops .ensures i }
 
 -- where something is owed there is such a position
