@@ -20,6 +20,7 @@ use Rattle.answers.specs.declared.Refusal.the-variants.{
   ShortFront,
   LengthOff,
   NoTriangles,
+  ChargeTooHigh,
 }
 use Rattle.answers.specs.declared.Verdict.{Verdict}
 use Rattle.answers.specs.declared.Verdict.the-variants.{Yes, No}
@@ -44,6 +45,7 @@ numberOf NotInOrder = 13
 numberOf ShortFront = 15
 numberOf LengthOff = 16
 numberOf NoTriangles = 17
+numberOf ChargeTooHigh = 18
 
 -- 0 for yes, else the refusal's number
 abbrev pub answerOf : Verdict → ℕ

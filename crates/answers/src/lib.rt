@@ -21,6 +21,7 @@ pub enum Refusal {
     ShortFront,
     LengthOff,
     NoTriangles,
+    ChargeTooHigh,
 }
 
 pub enum Verdict {
@@ -57,6 +58,7 @@ impl Refusal {
             Refusal::ShortFront => 15,
             Refusal::LengthOff => 16,
             Refusal::NoTriangles => 17,
+            Refusal::ChargeTooHigh => 18,
         }
     }
 }

@@ -53,7 +53,7 @@ admissible d number work lead s e =
       order = not-false _ (t .0);
       job = record {
         number = leb-true _ _ (not-false _ (zero .0));
-        owed = w;
+        owed = (omega (arith, w .0), omega (arith, w .1));
         ahead = omega (arith, far .0);
         near = omega (arith, far .1);
         within = leb-true _ _ (not-false _ (past .0));
@@ -75,12 +75,13 @@ module _ (d : Desk) (j : Job) (a : Admissible d j) (t : Table) (e : t ≡ tableO
 
   pub taken-in-order : InOrder (moved (d .ledger) (d .ledger .clock) (d .ledger .feeds) t)
   taken-in-order =
-      let js : JobsIn (l .clock) (live (l .table) ++ (j ∷ []))
-      = jobs-in-taken (l .clock) (live (l .table)) j (order .jobs) (omega (arith, a .space, live-count (l .table) (order .tidyTable))) (a .job) (a .free) in
+      let js : JobsIn (l .charge) (l .clock) (live (l .table) ++ (j ∷ []))
+      = jobs-in-taken (l .charge) (l .clock) (live (l .table)) j (order .jobs) (omega (arith, a .space, live-count (l .table) (order .tidyTable))) (a .job) (a .free) in
       record {
         clock = order .clock;
+        charge = order .charge;
         feeds = order .feeds;
-        jobs = subst (JobsIn (l .clock)) (sym taken-live) js;
+        jobs = subst (JobsIn (l .charge) (l .clock)) (sym taken-live) js;
         tidyFeeds = order .tidyFeeds;
         tidyTable = subst Rattle.jobs.specs.Jobs.Tidy (sym e) (tidy-of (live (l .table) ++ (j ∷ [])) (js .few));
       }
@@ -88,7 +89,7 @@ module _ (d : Desk) (j : Job) (a : Admissible d j) (t : Table) (e : t ≡ tableO
   pub taken-book : bookOf (moved (d .ledger) (d .ledger .clock) (d .ledger .feeds) t) ≡ with-job d j
   unfolding taking
   taken-book =
-      ap (bookAt (l .clock) (inUse (l .feeds))) taken-live
+      ap (bookAt (l .charge) (l .clock) (inUse (l .feeds))) taken-live
       ∙ (λ i. record { clock = l .clock .0; feeds = book d .feeds; jobs = jobs-append (live (l .table)) j i })
 
 module _ (d : Desk) (number work lead : ℕ) where

@@ -51,8 +51,8 @@ jobs-append (k ∷ js) j = ap (bookJob k ∷_) (jobs-append js j)
 
 module _ (l : Ledger) (h : InOrder l) where
   -- the feeds and the jobs, written back as they were
-  feeds-back : l .feeds ≡ feedsOf (owingAs (bookFeeds 1 (inUse (l .feeds))) (inUse (l .feeds)))
-  feeds-back = h .tidyFeeds .filled ∙ ap feedsOf (sym (owing-as-read 1 (inUse (l .feeds))))
+  feeds-back : l .feeds ≡ feedsOf (owingAs (bookFeeds (l .charge) 1 (inUse (l .feeds))) (inUse (l .feeds)))
+  feeds-back = h .tidyFeeds .filled ∙ ap feedsOf (sym (owing-as-read (l .charge) 1 (inUse (l .feeds))))
 
   jobs-back : l .table ≡ tableOf (map jobOf (map bookJob (live (l .table))))
   jobs-back = h .tidyTable .filled ∙ ap tableOf (sym (jobs-of-book (live (l .table))))
@@ -65,7 +65,7 @@ module _ (l : Ledger) (h : InOrder l) where
   -- a piece that rests
   pub rested-ledger : (p : ℕ) (s : Feeds) → s ≡ feedsOf (rested p 1 (inUse (l .feeds))) → moved l (l .clock) s (l .table) ≡ rewritten l (resting p (bookOf l))
   unfolding resting
-  rested-ledger p s e = λ i. moved l (l .clock) ((e ∙ ap feedsOf (rested-read p 1 (inUse (l .feeds)))) i) (jobs-back i)
+  rested-ledger p s e = λ i. moved l (l .clock) ((e ∙ ap feedsOf (rested-read (l .charge) p 1 (inUse (l .feeds)))) i) (jobs-back i)
 
   -- a job that is taken
   pub taken-ledger : (j : Job) (t : Table) → t ≡ tableOf (live (l .table) ++ (j ∷ [])) → moved l (l .clock) (l .feeds) t ≡ rewritten l (taking (bookJob j) (bookOf l))

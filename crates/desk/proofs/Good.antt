@@ -50,11 +50,13 @@ either Yes new old g h = h refl
 either (No x) new old g h = g
 
 -- AN OPENING; a refused one hands back the empty state
-pub opening-is-good : (xs : List ℕ) (start : ℕ) → Good (openedOf xs start .desk)
+pub opening-is-good : (xs : List ℕ) (start charge : ℕ) → Good (openedOf xs start charge .desk)
 unfolding openedOf
-opening-is-good xs start =
-    either (firstOf (openLines xs start)) (openedDesk (feedsIn xs) (instant start)) empty empty-is-good
-    (λ e. let t = opening-passes xs start e in opened-is-good (feedsIn xs) (instant start) (t .0) (nothing-yet xs) (t .1))
+opening-is-good xs start charge =
+    either (firstOf (openLines xs start charge)) (openedDesk (feedsIn xs) (ticks charge) (instant start)) empty empty-is-good
+    (λ e.
+    let t = opening-passes xs start charge e in
+    opened-is-good (feedsIn xs) (ticks charge) (instant start) (t .0) (nothing-yet xs) (t .1) (t .2))
 
 module _ (d : Desk) (g : Good d) where
   -- a sound book that the state can hold, written into it

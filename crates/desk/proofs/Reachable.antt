@@ -10,7 +10,8 @@ use Rattle.lists.specs.Lists.{eq, Each, keep}
 use Rattle.lists.proofs.Lists.{each-imp, each-append, each-map, each-keep, total-map}
 use Rattle.lists.proofs.Places.{length-filled}
 use Rattle.ticks.specs.declared.Instant.{Instant}
-use Rattle.ticks.specs.Ticks.{lastInstant, instant}
+use Rattle.ticks.specs.declared.Length.{Length}
+use Rattle.ticks.specs.Ticks.{lastInstant, mostCharge, instant, ticks}
 use Rattle.feeds.specs.declared.Feed.{Feed}
 use Rattle.feeds.specs.Feeds.{mostFeeds, noFeed, FeedIn, inUse, feedsOf}
 use Rattle.feeds.specs.Lines.{Passing, FeedsIn}
@@ -100,9 +101,9 @@ module _ (l : Ledger) (b : edf.Book) (h : Held l b) where
         clock = lt;
         feeds = same-feeds _ _ _ (plans.step-keeps-positions b) (plans.step-keeps-plans b);
         few = omega (arith, step-few b, h .few);
-        jobs = each-keep (JobHeld t′) (λ j. ltb 0 (j .owes)) (map (serveJob g) (b .jobs))
-            (each-map (λ j. ltb 0 (j .owes) ≡ true → JobHeld t′ j) (serveJob g) (b .jobs)
-            (each-imp (JobHeld (b .clock)) (λ j. ltb 0 (serveJob g j .owes) ≡ true → JobHeld t′ (serveJob g j))
+        jobs = each-keep (JobHeld (l .charge) t′) (λ j. ltb 0 (j .owes)) (map (serveJob g) (b .jobs))
+            (each-map (λ j. ltb 0 (j .owes) ≡ true → JobHeld (l .charge) t′ j) (serveJob g) (b .jobs)
+            (each-imp (JobHeld (l .charge) (b .clock)) (λ j. ltb 0 (serveJob g j .owes) ≡ true → JobHeld (l .charge) t′ (serveJob g j))
             (λ j k e. record { number = k .number; owes = omega (arith, k .owes); near = omega (arith, k .near); within = k .within })
             (b .jobs)
             (h .jobs)));
@@ -116,8 +117,8 @@ module _ (l : Ledger) (b : edf.Book) (h : Held l b) where
         clock = h .clock;
         feeds = same-feeds _ _ _ refl refl;
         few = omega (arith, length-keep (λ j. not (eqb n (j .number))) (b .jobs), h .few);
-        jobs = each-keep (JobHeld (b .clock)) (λ j. not (eqb n (j .number))) (b .jobs)
-            (each-imp (JobHeld (b .clock)) (λ j. not (eqb n (j .number)) ≡ true → JobHeld (b .clock) j) (λ j k e. k) (b .jobs) (h .jobs));
+        jobs = each-keep (JobHeld (l .charge) (b .clock)) (λ j. not (eqb n (j .number))) (b .jobs)
+            (each-imp (JobHeld (l .charge) (b .clock)) (λ j. not (eqb n (j .number)) ≡ true → JobHeld (l .charge) (b .clock) j) (λ j k e. k) (b .jobs) (h .jobs));
       }
 
   pub held-resting : (p : ℕ) → Sound (resting p b) → Held l (resting p b)
@@ -152,73 +153,76 @@ held-taking d j h s a =
       clock = h .clock;
       feeds = record { positions = h .feeds .positions; plans = h .feeds .plans };
       few = omega (arith, a .space, live-count (d .ledger .table) (o .tidyTable));
-      jobs = each-append (JobHeld (d .ledger .clock .0)) (map bookJob js) (bookJob j ∷ []) (h .jobs)
+      jobs = each-append (JobHeld (d .ledger .charge) (d .ledger .clock .0)) (map bookJob js) (bookJob j ∷ []) (h .jobs)
           (record { number = a .job .number; owes = a .job .owed .1; near = a .job .near; within = a .job .within }, tt);
     }
 
-plans-in : (k : ℕ) (fs : List Feed) → Each FeedIn fs → Each PlanInOrder (edf.plans (bookFeeds k fs))
-plans-in k [] h = tt
-plans-in k (f ∷ fs) h = (record { offset = h .0 .offset; lead = h .0 .period .0; short = omega arith }, plans-in (suc k) fs (h .1))
+plans-in : (c : Length) (k : ℕ) (fs : List Feed) → Each FeedIn fs → Each PlanInOrder (edf.plans (bookFeeds c k fs))
+plans-in c k [] h = tt
+plans-in c k (f ∷ fs) h = (record { offset = h .0 .offset; lead = h .0 .period .0; short = omega arith }, plans-in c (suc k) fs (h .1))
 
 -- feeds that pass are feeds that an opening accepts
-pub passing-opens : (fs : List Feed) → Passing fs → Opens (bookFeeds 1 fs)
-passing-opens fs p = record { each = plans-in 1 fs (p .within); positions = λ n. ledger.positions-once n 1 fs; light = ledger.book-light 1 fs p }
+pub passing-opens : (c : Length) (fs : List Feed) → Passing c fs → Opens (bookFeeds c 1 fs)
+passing-opens c fs p = record { each = plans-in c 1 fs (p .within); positions = λ n. ledger.positions-once c n 1 fs; light = ledger.book-light c 1 fs p }
 
-pub opened-sound : (start : ℕ) (fs : List Feed) → Passing fs → Sound (opened start (bookFeeds 1 fs))
-opened-sound start fs p = opening-is-sound start (bookFeeds 1 fs) (passing-opens fs p)
+pub opened-sound : (c : Length) (start : ℕ) (fs : List Feed) → Passing c fs → Sound (opened start (bookFeeds c 1 fs))
+opened-sound c start fs p = opening-is-sound start (bookFeeds c 1 fs) (passing-opens c fs p)
 
 -- a desk with feeds that pass and of which no piece has come is in order
-laid-in-order : (fs : List Feed) (clock : Instant) → Passing fs → Fresh fs → clock .0 ≤ lastInstant → InOrder (laid fs clock .ledger)
-laid-in-order fs clock p z l =
-    let pieces : Each (PieceIn clock) fs
-    = each-imp (λ f. f .owes .0 ≡ 0) (PieceIn clock) (λ f e. record { owes = omega (arith, e); early = λ k. e }) fs z in
+laid-in-order : (fs : List Feed) (c : Length) (clock : Instant) → Passing c fs → Fresh fs → c .0 ≤ mostCharge → clock .0 ≤ lastInstant
+    → InOrder (laid fs c clock .ledger)
+laid-in-order fs c clock p z low l =
+    let pieces : Each (PieceIn c clock) fs
+    = each-imp (λ f. f .owes .0 ≡ 0) (PieceIn c clock) (λ f e. record { owes = omega (arith, e); early = λ k. e }) fs z in
     record {
       clock = l;
-      feeds = subst (FeedsIn clock) (sym (in-use-of fs)) (record { passing = p; pieces = pieces });
+      charge = low;
+      feeds = subst (FeedsIn c clock) (sym (in-use-of fs)) (record { passing = p; pieces = pieces });
       jobs = record { few = omega arith; each = tt; once = λ n. omega arith };
       tidyFeeds = tidy-of fs (p .few);
       tidyTable = jobs.tidy-of [] (omega arith);
     }
 
 -- AN OPENING: feeds that pass, at an instant within the clock's limits
-pub opened-is-good : (fs : List Feed) (clock : Instant) → Passing fs → Fresh fs → clock .0 ≤ lastInstant → Good (openedDesk fs clock)
+pub opened-is-good : (fs : List Feed) (c : Length) (clock : Instant) → Passing c fs → Fresh fs → c .0 ≤ mostCharge → clock .0 ≤ lastInstant
+    → Good (openedDesk fs c clock)
 unfolding opened
-opened-is-good fs clock p z l =
-    let b = opened (clock .0) (bookFeeds 1 fs) in
-    let s = opened-sound (clock .0) fs p in
-    let same : bookFeeds 1 (inUse (feedsOf fs)) ≡ bookFeeds 1 fs = ap (bookFeeds 1) (in-use-of fs) in
-    good-rewritten (laid fs clock .ledger) b (laid-in-order fs clock p z l)
+opened-is-good fs c clock p z low l =
+    let b = opened (clock .0) (bookFeeds c 1 fs) in
+    let s = opened-sound c (clock .0) fs p in
+    let same : bookFeeds c 1 (inUse (feedsOf fs)) ≡ bookFeeds c 1 fs = ap (bookFeeds c 1) (in-use-of fs) in
+    good-rewritten (laid fs c clock .ledger) b (laid-in-order fs c clock p z low l)
     (record {
       order = s .order;
       clock = l;
       feeds = record {
-        positions = plans.opened-keeps-positions (clock .0) (bookFeeds 1 fs) ∙ ap edf.positions (sym same);
-        plans = plans.opened-keeps-plans (clock .0) (bookFeeds 1 fs) ∙ ap edf.plans (sym same);
+        positions = plans.opened-keeps-positions (clock .0) (bookFeeds c 1 fs) ∙ ap edf.positions (sym same);
+        plans = plans.opened-keeps-plans (clock .0) (bookFeeds c 1 fs) ∙ ap edf.plans (sym same);
       };
       few = omega arith;
       jobs = tt;
     })
-    (openedDesk fs clock)
+    (openedDesk fs c clock)
     refl
     s
 
 -- its book is the one that the mathematics opens
-pub opened-book : (fs : List Feed) (clock : Instant) → book (openedDesk fs clock) ≡ opened (clock .0) (bookFeeds 1 fs)
-opened-book fs clock =
-    let same : bookFeeds 1 (inUse (feedsOf fs)) ≡ bookFeeds 1 fs = ap (bookFeeds 1) (in-use-of fs) in
-    book-of-rewritten (laid fs clock .ledger) (opened (clock .0) (bookFeeds 1 fs))
+pub opened-book : (fs : List Feed) (c : Length) (clock : Instant) → book (openedDesk fs c clock) ≡ opened (clock .0) (bookFeeds c 1 fs)
+opened-book fs c clock =
+    let same : bookFeeds c 1 (inUse (feedsOf fs)) ≡ bookFeeds c 1 fs = ap (bookFeeds c 1) (in-use-of fs) in
+    book-of-rewritten (laid fs c clock .ledger) (opened (clock .0) (bookFeeds c 1 fs))
     (record {
-      positions = plans.opened-keeps-positions (clock .0) (bookFeeds 1 fs) ∙ ap edf.positions (sym same);
-      plans = plans.opened-keeps-plans (clock .0) (bookFeeds 1 fs) ∙ ap edf.plans (sym same);
+      positions = plans.opened-keeps-positions (clock .0) (bookFeeds c 1 fs) ∙ ap edf.positions (sym same);
+      plans = plans.opened-keeps-plans (clock .0) (bookFeeds c 1 fs) ∙ ap edf.plans (sym same);
     })
 
 -- THE EMPTY STATE is in order and its book is sound
 pub empty-is-good : Good empty
 unfolding opened
 empty-is-good =
-    let o = laid-in-order [] (instant 0) passing-none tt (omega arith) in
+    let o = laid-in-order [] (ticks 0) (instant 0) (passing-none (ticks 0)) tt (omega arith) (omega arith) in
     record {
       sized = record { feeds = length-filled mostFeeds noFeed [] (omega arith); jobs = length-filled mostJobs noJob [] (omega arith) };
       order = ledger.in-order-made (empty .ledger) o;
-      sound = opened-sound 0 [] passing-none;
+      sound = opened-sound (ticks 0) 0 [] (passing-none (ticks 0));
     }

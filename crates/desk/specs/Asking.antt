@@ -3,7 +3,7 @@ use mathlib.Core.Path.{_≡_}
 use mathlib.Core.Logic.{_⊎_}
 use mathlib.Core.Bool.{true, not, _&&_}
 use mathlib.Core.List.{List, [], _∷_, _++_}
-use Prim.Native.Nat.{ℕ, _<_}
+use Prim.Native.Nat.{ℕ, _+_, _<_}
 use lib.Dec.{leb}
 use Rattle.ticks.specs.declared.Instant.{Instant}
 use Rattle.ticks.specs.declared.Length.{Length}
@@ -44,10 +44,10 @@ abbrev pub askLines : Desk → ℕ → Length → Length → List Line
 askLines d number work lead =
     disorder d ∷ (requestLines (d .ledger .clock) number work lead ++ placeLines (d .ledger .table) number)
 
--- the job that is asked for
+-- the job that is asked for: it owes its work and the desk's charge
 abbrev pub requested : Desk → ℕ → ℕ → ℕ → Job
 requested d number work lead =
-    record { number = number; owed = ticks work; deadline = plus (d .ledger .clock) (ticks lead) }
+    record { number = number; owed = ticks (work + d .ledger .charge .0); deadline = plus (d .ledger .clock) (ticks lead) }
 
 -- the request as lines 13 and 1 to 5 leave it
 unfoldable pub requestOf : Desk → ℕ → ℕ → ℕ → Request
@@ -65,7 +65,7 @@ with-job d j = taking (bookJob j) (book d)
 pub record Admissible (d : Desk) (j : Job) : Type 0 where
   pub sized : Sized (d .ledger)
   pub order : inOrder (d .ledger) ≡ true
-  pub job : JobIn (d .ledger .clock) j
+  pub job : JobIn (d .ledger .charge) (d .ledger .clock) j
   pub free : times (j .number) (live (d .ledger .table)) ≡ 0
   pub space : d .ledger .table .count < mostJobs
 

@@ -1,4 +1,4 @@
--- The opening: lines 12, 8, 3, 2, 9 and 10 in this order; a refused opening hands back the empty state.
+-- The opening: lines 12, 8, 3, 18, 2, 9 and 10 in this order; a refused opening hands back the empty state.
 use mathlib.Core.Path.{_≡_}
 use mathlib.Core.Bool.{not}
 use mathlib.Core.List.{List, [], _∷_, _++_}
@@ -7,13 +7,13 @@ use lib.Dec.{leb}
 use lib.ListN.{length}
 use Rattle.lists.specs.Lists.{Each}
 use Rattle.ticks.specs.declared.Instant.{Instant}
-use Rattle.ticks.specs.Ticks.{lastInstant, instant}
+use Rattle.ticks.specs.declared.Length.{Length}
+use Rattle.ticks.specs.Ticks.{lastInstant, mostCharge, instant, ticks}
 use Rattle.feeds.specs.declared.Feed.{Feed}
 use Rattle.feeds.specs.Feeds.{feedsOf}
 use Rattle.feeds.specs.Lines.{shapeLines, feedLines, feedsIn}
-use Rattle.jobs.specs.Jobs.{tableOf}
 use Rattle.edf.specs.Load.{opened}
-use Rattle.answers.specs.declared.Refusal.the-variants.{PastLast}
+use Rattle.answers.specs.declared.Refusal.the-variants.{PastLast, ChargeTooHigh}
 use Rattle.answers.specs.Answers.{Line, line}
 use Rattle.ledger.specs.State as ledger
 use Rattle.ledger.specs.Books.{bookFeeds}
@@ -26,25 +26,30 @@ use Rattle.desk.specs.State.{empty, with, rewritten}
 abbrev pub startLine : ℕ → Line
 startLine start = line (not (leb start lastInstant)) PastLast
 
-abbrev pub openLines : List ℕ → ℕ → List Line
-openLines xs start = shapeLines (length xs) ++ (startLine start ∷ feedLines (feedsIn xs))
+-- the charge is above its limit (18)
+abbrev pub chargeLine : ℕ → Line
+chargeLine charge = line (not (leb charge mostCharge)) ChargeTooHigh
 
--- a desk with these feeds, no piece come yet
-abbrev pub laid : List Feed → Instant → Desk
-laid fs clock = with empty (ledger.moved ledger.empty clock (feedsOf fs) (tableOf []))
+abbrev pub openLines : List ℕ → ℕ → ℕ → List Line
+openLines xs start charge = shapeLines (length xs) ++ (startLine start ∷ chargeLine charge ∷ feedLines (ticks charge) (feedsIn xs))
+
+-- a desk with these feeds under a charge, no piece come yet
+abbrev pub laid : List Feed → Length → Instant → Desk
+laid fs charge clock = with empty (ledger.laid clock charge (feedsOf fs))
 
 -- the desk with these feeds as the mathematics opens it: the pieces released at the opening instant are ready
-abbrev pub openedDesk : List Feed → Instant → Desk
-openedDesk fs clock = rewritten (laid fs clock) (opened (clock .0) (bookFeeds 1 fs))
+abbrev pub openedDesk : List Feed → Length → Instant → Desk
+openedDesk fs charge clock = rewritten (laid fs charge clock) (opened (clock .0) (bookFeeds charge 1 fs))
 
 -- no piece of these feeds has come
 abbrev pub Fresh : List Feed → Type 0
 Fresh fs = Each (λ f. f .owes .0 ≡ 0) fs
 
--- the answer to feeds that lines 12, 8 and 3 let pass
-abbrev pub openedAt : List Feed → Instant → Answer
-openedAt fs clock = answered (feedLines fs) (openedDesk fs clock) empty
+-- the answer to feeds that lines 12, 8, 3 and 18 let pass
+abbrev pub openedAt : List Feed → Length → Instant → Answer
+openedAt fs charge clock = answered (feedLines charge fs) (openedDesk fs charge clock) empty
 
 -- the answer, and the state
-unfoldable pub openedOf : List ℕ → ℕ → Answer
-openedOf xs start = answered (openLines xs start) (openedDesk (feedsIn xs) (instant start)) empty
+unfoldable pub openedOf : List ℕ → ℕ → ℕ → Answer
+openedOf xs start charge =
+    answered (openLines xs start charge) (openedDesk (feedsIn xs) (ticks charge) (instant start)) empty

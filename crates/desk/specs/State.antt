@@ -8,7 +8,7 @@ use Rattle.ledger.specs.State as ledger
 use Rattle.ledger.specs.Books as books
 use Rattle.desk.specs.declared.Desk.{Desk}
 
--- the empty state: clock 0, no feeds, no jobs
+-- the empty state: clock 0, charge 0, no feeds, no jobs
 abbrev pub empty : Desk
 empty = record { ledger = ledger.empty }
 

@@ -14,7 +14,7 @@ use ticks::Length;
 ghost use mathlib.Core.Path.{_≡_};
 ghost use Prim.Native.Nat.{_≤_, _<_, _^_};
 ghost use lib.ListN.{length};
-ghost use Rattle.ticks.specs.Ticks.{lastInstant};
+ghost use Rattle.ticks.specs.Ticks.{lastInstant, mostCharge};
 ghost use Rattle.feeds.specs.Feeds.{inUse, Tidy};
 ghost use Rattle.jobs.specs.Jobs.{mostJobs};
 ghost use Rattle.listing.specs.Labels.{labelOf, PartAt};
@@ -59,7 +59,7 @@ pub struct Counted {
 }
 
 impl Desk {
-    // The empty state: clock 0, no feeds, no jobs.
+    // The empty state: clock 0, charge 0, no feeds, no jobs.
     pub fn none() -> Desk
         ensures { λ r. ⌜ r ≡ empty ⌝ }
     {
@@ -82,9 +82,9 @@ impl Desk {
         Desk { ledger }
     }
 
-    // Opening with a list of feeds at an instant: lines 12 and 8, then 3, then 2, 9 and 10.
-    pub fn open(list: &[u32], start: u64) -> Answer
-        ensures { λ r. ⌜ r ≡ openedOf (now (list .entry)) start ⌝ }
+    // Opening with a list of feeds at an instant, under a charge: lines 12 and 8, then 3, then 18, then 2, 9 and 10.
+    pub fn open(list: &[u32], start: u64, charge: u32) -> Answer
+        ensures { λ r. ⌜ r ≡ openedOf (now (list .entry)) start charge ⌝ }
     {
         let shape = feeds::shape(list);
         if !shape.is_yes() {
@@ -100,22 +100,29 @@ impl Desk {
                 verdict: Verdict::No(Refusal::PastLast),
             };
         }
-        Desk::open_at(feeds::taken(list), clock)
+        let charge = Length::of(charge);
+        if !charge.suits_charge() {
+            return Answer {
+                desk: Desk::none(),
+                verdict: Verdict::No(Refusal::ChargeTooHigh),
+            };
+        }
+        Desk::open_at(feeds::taken(list), charge, clock)
     }
 
-    // The opening of feeds that lines 12 and 8 let pass, at an instant that the clock can read.
-    fn open_at(feeds: Feeds, clock: Instant) -> Answer
-        requires { ⌜ Tidy feeds × Fresh (inUse feeds) × (clock .0 ≤ lastInstant) ⌝ }
-        ensures { λ r. ⌜ r ≡ openedAt (inUse feeds) clock ⌝ }
+    // The opening of feeds that lines 12 and 8 let pass, under a charge within its limit, at an instant that the clock can read.
+    fn open_at(feeds: Feeds, charge: Length, clock: Instant) -> Answer
+        requires { ⌜ Tidy feeds × Fresh (inUse feeds) × (charge .0 ≤ mostCharge) × (clock .0 ≤ lastInstant) ⌝ }
+        ensures { λ r. ⌜ r ≡ openedAt (inUse feeds) charge clock ⌝ }
     {
-        let verdict = feeds.sound();
+        let verdict = feeds.sound(charge);
         if !verdict.is_yes() {
             return Answer {
                 desk: Desk::none(),
                 verdict,
             };
         }
-        let ledger = Ledger::none().moved(clock, feeds.arrive(clock), Table::none());
+        let ledger = Ledger::laid(clock, charge, feeds.arrive(charge, clock));
         Answer {
             desk: Desk::none().with(ledger),
             verdict,
@@ -275,7 +282,11 @@ impl Desk {
         }
         Request {
             verdict,
-            job: Job::of(number, owed, self.ledger.clock.plus(ahead)),
+            job: Job::of(
+                number,
+                owed.and(self.ledger.charge),
+                self.ledger.clock.plus(ahead),
+            ),
         }
     }
 

@@ -6,7 +6,8 @@ use Prim.Native.Nat.{ℕ, _+_, _*_, _/_, _%_, _≤_, _<_}
 use native.Mathlib.Nat.{one-dvd, dvd-refl}
 use lib.Dec.{leb, lit<, lit≤}
 use borrow.Author.Tests.{le-leb, lt-leb}
-use Rattle.ticks.specs.Ticks.{mostRound}
+use Rattle.ticks.specs.declared.Length.{Length}
+use Rattle.ticks.specs.Ticks.{mostRound, ticks}
 use Rattle.lists.specs.Lists.{every, allOf}
 use Rattle.plans.specs.Plans.{planIn}
 use Rattle.plans.specs.Euclid.{GreatestDivisor}
@@ -35,17 +36,17 @@ module _ (a b g : ℕ) (ha : 1 ≤ a) (hb : 1 ≤ b) (h : GreatestDivisor a b g)
   long-of-two : mostRound < a / g * b → roundOf (a ∷ b ∷ []) ≡ mostRound + 1
   long-of-two l = so-far-long _ _ _ two-periods l
 
-module _ (fs : List Feed) (R : ℕ) (within : every feedIn fs ≡ true) (round : roundOf (periods fs) ≡ R) where
-  too-long : mostRound < R → firstOf (feedLines fs) ≡ No RoundTooLong
-  too-long h = feeds-too-long fs within (ap (λ r. leb r mostRound) round ∙ lt-leb R mostRound h)
+module _ (charge : Length) (fs : List Feed) (R : ℕ) (within : every feedIn fs ≡ true) (round : roundOf (periods fs) ≡ R) where
+  too-long : mostRound < R → firstOf (feedLines charge fs) ≡ No RoundTooLong
+  too-long h = feeds-too-long charge fs within (ap (λ r. leb r mostRound) round ∙ lt-leb R mostRound h)
 
-  too-much : R ≤ mostRound → R < load R fs → firstOf (feedLines fs) ≡ No TooMuchLoad
+  too-much : R ≤ mostRound → R < load charge R fs → firstOf (feedLines charge fs) ≡ No TooMuchLoad
   too-much h l =
-      feeds-too-much fs within (ap (λ r. leb r mostRound) round ∙ le-leb R mostRound h) (subst (λ r. r < load r fs) (sym round) l)
+      feeds-too-much charge fs within (ap (λ r. leb r mostRound) round ∙ le-leb R mostRound h) (subst (λ r. r < load charge r fs) (sym round) l)
 
-  passed : R ≤ mostRound → load R fs ≤ R → firstOf (feedLines fs) ≡ Yes
+  passed : R ≤ mostRound → load charge R fs ≤ R → firstOf (feedLines charge fs) ≡ Yes
   passed h l =
-      feeds-yes fs within (ap (λ r. leb r mostRound) round ∙ le-leb R mostRound h) (subst (λ r. load r fs ≤ r) (sym round) l)
+      feeds-yes charge fs within (ap (λ r. leb r mostRound) round ∙ le-leb R mostRound h) (subst (λ r. load charge r fs ≤ r) (sym round) l)
 
 -- 2 and an odd number
 odd : (a : ℕ) → a % 2 ≡ 1 → GreatestDivisor a 2 1
@@ -65,18 +66,18 @@ unfolding firstOf
 six-numbers = refl
 
 -- periods 40,319 and 2: the round is too long
-pub long-round : firstOf (feedLines (feedsIn (40319 ∷ 1 ∷ 0 ∷ 2 ∷ 1 ∷ 0 ∷ []))) ≡ No RoundTooLong
+pub long-round : firstOf (feedLines (ticks 0) (feedsIn (40319 ∷ 1 ∷ 0 ∷ 2 ∷ 1 ∷ 0 ∷ []))) ≡ No RoundTooLong
 unfolding feedsIn every planIn allOf
 long-round =
-    too-long (feedsIn (40319 ∷ 1 ∷ 0 ∷ 2 ∷ 1 ∷ 0 ∷ [])) (mostRound + 1) refl
+    too-long (ticks 0) (feedsIn (40319 ∷ 1 ∷ 0 ∷ 2 ∷ 1 ∷ 0 ∷ [])) (mostRound + 1) refl
     (long-of-two 40319 2 1 (lit≤ tt) (lit≤ tt) (odd 40319 refl) (lit< tt))
     (lit< tt)
 
 -- periods 20,159 and 2: a round that is not
-pub short-round : firstOf (feedLines (feedsIn (20159 ∷ 1 ∷ 0 ∷ 2 ∷ 1 ∷ 0 ∷ []))) ≡ Yes
+pub short-round : firstOf (feedLines (ticks 0) (feedsIn (20159 ∷ 1 ∷ 0 ∷ 2 ∷ 1 ∷ 0 ∷ []))) ≡ Yes
 unfolding feedsIn every planIn allOf
 short-round =
-    passed (feedsIn (20159 ∷ 1 ∷ 0 ∷ 2 ∷ 1 ∷ 0 ∷ [])) 40318 refl
+    passed (ticks 0) (feedsIn (20159 ∷ 1 ∷ 0 ∷ 2 ∷ 1 ∷ 0 ∷ [])) 40318 refl
     (round-of-two 20159 2 1 (lit≤ tt) (lit≤ tt) (odd 20159 refl) (lit≤ tt))
     (lit≤ tt)
     (lit≤ tt)
@@ -85,11 +86,11 @@ two-and-three : roundOf (2 ∷ 3 ∷ []) ≡ 6
 two-and-three = round-of-two 2 3 1 (lit≤ tt) (lit≤ tt) (divisor-rest 2 3 1 (odd 3 refl)) (lit≤ tt)
 
 -- 1 of 2 and 2 of 3 ticks are more than there are
-pub much : firstOf (feedLines (feedsIn (2 ∷ 1 ∷ 0 ∷ 3 ∷ 2 ∷ 0 ∷ []))) ≡ No TooMuchLoad
+pub much : firstOf (feedLines (ticks 0) (feedsIn (2 ∷ 1 ∷ 0 ∷ 3 ∷ 2 ∷ 0 ∷ []))) ≡ No TooMuchLoad
 unfolding feedsIn every planIn allOf
-much = too-much (feedsIn (2 ∷ 1 ∷ 0 ∷ 3 ∷ 2 ∷ 0 ∷ [])) 6 refl two-and-three (lit≤ tt) (lit< tt)
+much = too-much (ticks 0) (feedsIn (2 ∷ 1 ∷ 0 ∷ 3 ∷ 2 ∷ 0 ∷ [])) 6 refl two-and-three (lit≤ tt) (lit< tt)
 
 -- 1 of 2 and 1 of 3 are not
-pub not-much : firstOf (feedLines (feedsIn (2 ∷ 1 ∷ 0 ∷ 3 ∷ 1 ∷ 0 ∷ []))) ≡ Yes
+pub not-much : firstOf (feedLines (ticks 0) (feedsIn (2 ∷ 1 ∷ 0 ∷ 3 ∷ 1 ∷ 0 ∷ []))) ≡ Yes
 unfolding feedsIn every planIn allOf
-not-much = passed (feedsIn (2 ∷ 1 ∷ 0 ∷ 3 ∷ 1 ∷ 0 ∷ [])) 6 refl two-and-three (lit≤ tt) (lit≤ tt)
+not-much = passed (ticks 0) (feedsIn (2 ∷ 1 ∷ 0 ∷ 3 ∷ 1 ∷ 0 ∷ [])) 6 refl two-and-three (lit≤ tt) (lit≤ tt)

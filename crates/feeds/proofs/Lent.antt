@@ -4,6 +4,7 @@ use mathlib.Core.List.{List, [], _∷_}
 use Prim.Native.Nat.{ℕ, zero, suc, _+_, _*_, _/_, _≤_, _<_}
 use native.Mathlib.Omega.{arith}
 use lib.ListN.{length, getD}
+use Rattle.ticks.specs.declared.Length.{Length}
 use Rattle.lists.specs.Lists.{Each}
 use Rattle.answers.specs.declared.Verdict.the-variants.{Yes}
 use Rattle.answers.specs.Answers.{firstOf}
@@ -58,5 +59,6 @@ few-read xs h =
     omega (arith, shape-yes (length xs) h)
 
 -- feeds that were read and that no line refuses pass
-pub read-passing : (xs : List ℕ) → firstOf (shapeLines (length xs)) ≡ Yes → firstOf (feedLines (feedsIn xs)) ≡ Yes → Passing (feedsIn xs)
-read-passing xs h k = yes-passing (feedsIn xs) (few-read xs h) k
+pub read-passing : (xs : List ℕ) (charge : Length) → firstOf (shapeLines (length xs)) ≡ Yes → firstOf (feedLines charge (feedsIn xs)) ≡ Yes
+    → Passing charge (feedsIn xs)
+read-passing xs charge h k = yes-passing charge (feedsIn xs) (few-read xs h) k

@@ -7,6 +7,7 @@ use native.Mathlib.Omega.{arith}
 use lib.Dec.{leb}
 use lib.ListN.{length}
 use borrow.Author.Tests.{eqb-true, ltb-false, leb-true, le-leb, le-ltb, lt-ltb, not-false}
+use Rattle.ticks.specs.declared.Length.{Length}
 use Rattle.ticks.specs.Ticks.{mostRound}
 use Rattle.lists.specs.Lists.{every}
 use Rattle.answers.specs.declared.Refusal.the-variants.{Outside, RoundTooLong, TooMuchLoad}
@@ -27,30 +28,30 @@ shape-yes n h =
     let b = yes-first _ _ (a .1) in
     (eqb-true _ _ (not-false _ (a .0)), ltb-false _ _ (b .0))
 
-module _ (fs : List Feed) where
+module _ (charge : Length) (fs : List Feed) where
   -- line 2 holds
-  pub feeds-outside : every feedIn fs ≡ false → firstOf (feedLines fs) ≡ No Outside
+  pub feeds-outside : every feedIn fs ≡ false → firstOf (feedLines charge fs) ≡ No Outside
   feeds-outside p = stops _ _ (ap not p)
 
   -- line 9 holds and no line before it
   pub feeds-too-long :
-      every feedIn fs ≡ true → leb (roundOf (periods fs)) mostRound ≡ false → firstOf (feedLines fs) ≡ No RoundTooLong
+      every feedIn fs ≡ true → leb (roundOf (periods fs)) mostRound ≡ false → firstOf (feedLines charge fs) ≡ No RoundTooLong
   feeds-too-long p q = goes-on _ _ _ (ap not p) (stops _ _ (ap not q))
 
   -- line 10 holds and no line before it
   pub feeds-too-much :
       every feedIn fs ≡ true → leb (roundOf (periods fs)) mostRound ≡ true →
-      roundOf (periods fs) < load (roundOf (periods fs)) fs → firstOf (feedLines fs) ≡ No TooMuchLoad
+      roundOf (periods fs) < load charge (roundOf (periods fs)) fs → firstOf (feedLines charge fs) ≡ No TooMuchLoad
   feeds-too-much p q h = goes-on _ _ _ (ap not p) (goes-on _ _ _ (ap not q) (stops _ _ (lt-ltb _ _ h)))
 
   -- no line holds
   pub feeds-yes :
       every feedIn fs ≡ true → leb (roundOf (periods fs)) mostRound ≡ true →
-      load (roundOf (periods fs)) fs ≤ roundOf (periods fs) → firstOf (feedLines fs) ≡ Yes
+      load charge (roundOf (periods fs)) fs ≤ roundOf (periods fs) → firstOf (feedLines charge fs) ≡ Yes
   feeds-yes p q h = goes-on _ _ _ (ap not p) (goes-on _ _ _ (ap not q) (goes-on _ _ _ (le-ltb _ _ h) no-line))
 
   -- feeds that have a place each and that no line refuses pass
-  pub yes-passing : length fs ≤ mostFeeds → firstOf (feedLines fs) ≡ Yes → Passing fs
+  pub yes-passing : length fs ≤ mostFeeds → firstOf (feedLines charge fs) ≡ Yes → Passing charge fs
   yes-passing few h =
       let a = yes-first _ _ h in
       let b = yes-first _ _ (a .1) in
@@ -61,14 +62,14 @@ module _ (fs : List Feed) where
         within = feeds-in fs (not-false _ (a .0));
         short = short;
         round = round-found (periods fs) short;
-        carried = ltb-false (roundOf (periods fs)) (load (roundOf (periods fs)) fs) (c .0);
+        carried = ltb-false (roundOf (periods fs)) (load charge (roundOf (periods fs)) fs) (c .0);
       }
 
-  pub passing-yes : Passing fs → firstOf (feedLines fs) ≡ Yes
+  pub passing-yes : Passing charge fs → firstOf (feedLines charge fs) ≡ Yes
   passing-yes h = feeds-yes (feeds-in-made fs (h .within)) (le-leb _ _ (h .short)) (h .carried)
 
 -- no feeds at all pass
-pub passing-none : Passing []
-passing-none =
+pub passing-none : (charge : Length) → Passing charge []
+passing-none charge =
     let short : roundOf (periods []) ≤ mostRound = subst (_≤ mostRound) (sym round-none) (omega arith) in
     record { few = omega arith; within = tt; short = short; round = round-found [] short; carried = omega arith }

@@ -7,6 +7,7 @@ use borrow.Author.Tests.{leb-true, le-leb}
 use lib.Dec.{leb, eqb}
 use Rattle.lists.proofs.Tests.{leb-elim, eqb-elim, false-not-true, all-of, all-of-made}
 use Rattle.ticks.specs.declared.Instant.{Instant}
+use Rattle.ticks.specs.declared.Length.{Length}
 use Rattle.feeds.specs.declared.Feed.{Feed}
 use Rattle.feeds.specs.Pieces.{pieceIn, PieceIn}
 
@@ -20,13 +21,13 @@ early-made a t n f =
     leb-elim (λ b. (b || eqb n 0) ≡ true) a t (λ h. refl)
     (λ h. eqb-elim (λ b. b ≡ true) n 0 (λ z. refl) (λ z. absurd (z (f h))))
 
-pub piece-in : (clock : Instant) (f : Feed) → pieceIn clock f ≡ true → PieceIn clock f
+pub piece-in : (charge : Length) (clock : Instant) (f : Feed) → pieceIn charge clock f ≡ true → PieceIn charge clock f
 unfolding pieceIn
-piece-in clock f h =
+piece-in charge clock f h =
     let t = all-of _ h in
     record { owes = leb-true _ _ (t .0); early = early-says (f .plan .offset .0) (clock .0) (f .owes .0) (t .1 .0) }
 
-pub piece-in-made : (clock : Instant) (f : Feed) → PieceIn clock f → pieceIn clock f ≡ true
+pub piece-in-made : (charge : Length) (clock : Instant) (f : Feed) → PieceIn charge clock f → pieceIn charge clock f ≡ true
 unfolding pieceIn
-piece-in-made clock f h =
+piece-in-made charge clock f h =
     all-of-made _ (le-leb _ _ (h .owes), (early-made (f .plan .offset .0) (clock .0) (f .owes .0) (h .early), tt))

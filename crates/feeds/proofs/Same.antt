@@ -5,6 +5,7 @@ use Prim.Native.Nat.{ℕ, suc, _≤_}
 use native.Mathlib.Omega.{arith}
 use lib.ListN.{length, length-map}
 use Rattle.ticks.specs.declared.Instant.{Instant}
+use Rattle.ticks.specs.declared.Length.{Length}
 use Rattle.ticks.specs.Ticks.{mostRound}
 use Rattle.lists.specs.Lists.{Each, total}
 use Rattle.lists.proofs.Lists.{total-map, each-map, each-of-map}
@@ -30,27 +31,29 @@ module _ (fs gs : List Feed) (same : plansOf fs ≡ plansOf gs) where
   pub same-periods : periods fs ≡ periods gs
   same-periods = periods-of fs ∙ ap (map (λ p. p .period .0)) same ∙ sym (periods-of gs)
 
-  pub same-load : (R : ℕ) → load R fs ≡ load R gs
-  same-load R =
-      sym (total-map (share R) (λ f. f .plan) fs) ∙ ap (total (share R)) same ∙ total-map (share R) (λ f. f .plan) gs
+  pub same-load : (charge : Length) (R : ℕ) → load charge R fs ≡ load charge R gs
+  same-load charge R =
+      sym (total-map (share charge R) (λ f. f .plan) fs)
+      ∙ ap (total (share charge R)) same
+      ∙ total-map (share charge R) (λ f. f .plan) gs
 
-  pub same-passing : Passing fs → Passing gs
-  same-passing h =
+  pub same-passing : (charge : Length) → Passing charge fs → Passing charge gs
+  same-passing charge h =
       let many = same-length in
       record {
         few = omega (arith, h .few);
         within = same-within (h .within);
         short = subst (λ ps. roundOf ps ≤ mostRound) same-periods (h .short);
         round = subst (λ ps. IsRound (roundOf ps) ps) same-periods (h .round);
-        carried = subst (λ ps. load (roundOf ps) gs ≤ roundOf ps) same-periods
-            (subst (λ n. n ≤ roundOf (periods fs)) (same-load (roundOf (periods fs))) (h .carried));
+        carried = subst (λ ps. load charge (roundOf ps) gs ≤ roundOf ps) same-periods
+            (subst (λ n. n ≤ roundOf (periods fs)) (same-load charge (roundOf (periods fs))) (h .carried));
       }
 
 -- what comes, is rested or is served changes no plan
-pub arrived-plans : (x : Instant) (fs : List Feed) → plansOf (map (arrived x) fs) ≡ plansOf fs
+pub arrived-plans : (charge : Length) (x : Instant) (fs : List Feed) → plansOf (map (arrived charge x) fs) ≡ plansOf fs
 unfolding arrived
-arrived-plans x [] = refl
-arrived-plans x (f ∷ fs) = ap (f .plan ∷_) (arrived-plans x fs)
+arrived-plans charge x [] = refl
+arrived-plans charge x (f ∷ fs) = ap (f .plan ∷_) (arrived-plans charge x fs)
 
 pub rested-plans : (p k : ℕ) (fs : List Feed) → plansOf (rested p k fs) ≡ plansOf fs
 rested-plans p k [] = refl
@@ -61,8 +64,8 @@ served-plans p k [] = refl
 served-plans p k (f ∷ fs) = ap (f .plan ∷_) (served-plans p (suc k) fs)
 
 -- nor how many feeds there are
-pub length-arrived : (x : Instant) (fs : List Feed) → length (map (arrived x) fs) ≡ length fs
-length-arrived x fs = length-map fs (arrived x)
+pub length-arrived : (charge : Length) (x : Instant) (fs : List Feed) → length (map (arrived charge x) fs) ≡ length fs
+length-arrived charge x fs = length-map fs (arrived charge x)
 
 pub length-rested : (p k : ℕ) (fs : List Feed) → length (rested p k fs) ≡ length fs
 length-rested p k fs = same-length (rested p k fs) fs (rested-plans p k fs)

@@ -5,6 +5,7 @@ use Prim.Native.Nat.{ℕ, _+_, _*_, _/_, _%_, _≤_}
 use lib.Dec.{leb, ltb, eqb}
 use lib.ListN.{length, getD, drop}
 use Rattle.ticks.specs.declared.Instant.{Instant}
+use Rattle.ticks.specs.declared.Length.{Length}
 use Rattle.ticks.specs.Ticks.{mostRound, ticks}
 use Rattle.lists.specs.Lists.{every, Each, allOf}
 use Rattle.answers.specs.declared.Refusal.the-variants.{Outside, TooManyFeeds, RoundTooLong, TooMuchLoad, NotWholeFeeds}
@@ -21,37 +22,37 @@ shapeLines n =
     line (not (eqb (n % numbersAFeed) 0)) NotWholeFeeds ∷ line (ltb mostFeeds (n / numbersAFeed)) TooManyFeeds ∷ []
 
 -- of the feeds: a length or an offset is outside its limits (2), the round is too long (9), in a round they want more than
--- the round (10)
-abbrev pub feedLines : List Feed → List Line
-feedLines fs =
+-- the round (10), the charge of each piece counted
+abbrev pub feedLines : Length → List Feed → List Line
+feedLines charge fs =
     line (not (every feedIn fs)) Outside
     ∷ line (not (leb (roundOf (periods fs)) mostRound)) RoundTooLong
-    ∷ line (ltb (roundOf (periods fs)) (load (roundOf (periods fs)) fs)) TooMuchLoad
+    ∷ line (ltb (roundOf (periods fs)) (load charge (roundOf (periods fs)) fs)) TooMuchLoad
     ∷ []
 
 -- the feeds of a state in order: at most 16 (line 8), they pass lines 2, 9 and 10, the unused places are all zero, and the
 -- current pieces are in order
-unfoldable pub feedsPass : Instant → Feeds → Bool
-feedsPass clock s =
+unfoldable pub feedsPass : Length → Instant → Feeds → Bool
+feedsPass charge clock s =
     allOf
     (leb (s .count) mostFeeds
-    ∷ passes (feedLines (inUse s))
+    ∷ passes (feedLines charge (inUse s))
     ∷ every unusedFeed (drop (s .count) (s .feeds))
-    ∷ every (pieceIn clock) (inUse s)
+    ∷ every (pieceIn charge clock) (inUse s)
     ∷ [])
 
 -- feeds that pass, as facts
-pub record Passing (fs : List Feed) : Type 0 where
+pub record Passing (charge : Length) (fs : List Feed) : Type 0 where
   pub few : length fs ≤ mostFeeds
   pub within : Each FeedIn fs
   pub short : roundOf (periods fs) ≤ mostRound
   pub round : IsRound (roundOf (periods fs)) (periods fs)
-  pub carried : load (roundOf (periods fs)) fs ≤ roundOf (periods fs)
+  pub carried : load charge (roundOf (periods fs)) fs ≤ roundOf (periods fs)
 
 -- the same of a state's feeds at an instant, with their current pieces
-pub record FeedsIn (clock : Instant) (fs : List Feed) : Type 0 where
-  pub passing : Passing fs
-  pub pieces : Each (PieceIn clock) fs
+pub record FeedsIn (charge : Length) (clock : Instant) (fs : List Feed) : Type 0 where
+  pub passing : Passing charge fs
+  pub pieces : Each (PieceIn charge clock) fs
 
 -- three numbers: the feed whose piece has not come yet
 abbrev pub feed : ℕ → ℕ → ℕ → Feed

@@ -6,24 +6,25 @@ use Prim.Native.Nat.{ℕ, suc, _-_, _≤_, _<_}
 use lib.Dec.{leb, eqb}
 use Rattle.lists.specs.Lists.{allOf, eq}
 use Rattle.ticks.specs.declared.Instant.{Instant}
+use Rattle.ticks.specs.declared.Length.{Length}
 use Rattle.ticks.specs.Ticks.{ticks}
-use Rattle.plans.specs.Plans.{since}
+use Rattle.plans.specs.Plans.{since, charged}
 use Rattle.feeds.specs.declared.Feed.{Feed}
 use Rattle.feeds.specs.Feeds.{owing}
 
--- a current piece owes at most its feed's work, and nothing while the clock is below the offset
-unfoldable pub pieceIn : Instant → Feed → Bool
-pieceIn clock f =
-    allOf (leb (f .owes .0) (f .plan .work .0) ∷ (leb (f .plan .offset .0) (clock .0) || eqb (f .owes .0) 0) ∷ [])
+-- a current piece owes at most its feed's charged work, and nothing while the clock is below the offset
+unfoldable pub pieceIn : Length → Instant → Feed → Bool
+pieceIn charge clock f =
+    allOf (leb (f .owes .0) (charged charge (f .plan)) ∷ (leb (f .plan .offset .0) (clock .0) || eqb (f .owes .0) 0) ∷ [])
 
 -- the same, as facts
-pub record PieceIn (clock : Instant) (f : Feed) : Type 0 where
-  pub owes : f .owes .0 ≤ f .plan .work .0
+pub record PieceIn (charge : Length) (clock : Instant) (f : Feed) : Type 0 where
+  pub owes : f .owes .0 ≤ charged charge (f .plan)
   pub early : clock .0 < f .plan .offset .0 → f .owes .0 ≡ 0
 
--- the feed at the instant x: at a release a new piece has come
-unfoldable pub arrived : Instant → Feed → Feed
-arrived x f = owing (cond (eqb (since (f .plan) (x .0)) 0) (f .plan .work) (f .owes)) f
+-- the feed at the instant x: at a release a new piece has come, which owes its charged work
+unfoldable pub arrived : Length → Instant → Feed → Feed
+arrived charge x f = owing (cond (eqb (since (f .plan) (x .0)) 0) (ticks (charged charge (f .plan))) (f .owes)) f
 
 -- what the current piece of the feed at position p owes, of feeds from position k on; nothing where there is no such feed
 abbrev pub owesAt : ℕ → ℕ → List Feed → ℕ

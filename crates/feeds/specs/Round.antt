@@ -3,6 +3,7 @@ use mathlib.Core.Bool.{Bool, cond}
 use mathlib.Core.List.{List, map}
 use Prim.Native.Nat.{ℕ, zero, suc, _%_, _≤_, _∣_}
 use lib.Dec.{eqb}
+use Rattle.ticks.specs.declared.Length.{Length}
 use Rattle.ticks.specs.Ticks.{mostRound}
 use Rattle.lists.specs.Lists.{every, Each, total}
 use Rattle.plans.specs.Plans.{share}
@@ -30,6 +31,6 @@ firstFrom p (suc k) n = let later = firstFrom p k (suc n) in cond (p n) n later
 unfoldable pub roundOf : List ℕ → ℕ
 roundOf ps = firstFrom (λ n. every (goesInto n) ps) mostRound 1
 
--- what the feeds want in a round of R ticks
-abbrev pub load : ℕ → List Feed → ℕ
-load R fs = total (λ f. share R (f .plan)) fs
+-- what the feeds want in a round of R ticks, with the charge of each piece
+abbrev pub load : Length → ℕ → List Feed → ℕ
+load charge R fs = total (λ f. share charge R (f .plan)) fs

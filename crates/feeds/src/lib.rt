@@ -13,7 +13,7 @@ ghost use mathlib.Core.Bool.{true};
 ghost use mathlib.Core.List.{[], map};
 ghost use Prim.Native.Nat.{_+_, _*_, _-_, _≤_, _<_, _^_};
 ghost use lib.ListN.{length, drop, getD, set};
-ghost use Rattle.ticks.specs.Ticks.{mostRound, ticks};
+ghost use Rattle.ticks.specs.Ticks.{mostRound, mostCharge, ticks};
 ghost use Rattle.lists.specs.Lists.{every, Each};
 ghost use Rattle.answers.specs.declared.Verdict.the-variants.{Yes};
 ghost use Rattle.answers.specs.Answers.{firstOf};
@@ -74,12 +74,13 @@ impl Feed {
         self.owes.is_none()
     }
 
-    // What a state in order says of the current piece: it owes at most its work, and nothing while the clock is below the
-    // offset.
-    fn piece_in(self, clock: Instant) -> bool
-        ensures { λ r. ⌜ r ≡ pieceIn clock self ⌝ }
+    // What a state in order says of the current piece: it owes at most its charged work, and nothing while the clock is below
+    // the offset.
+    fn piece_in(self, charge: Length, clock: Instant) -> bool
+        requires { ⌜ FeedIn self × (charge .0 ≤ mostCharge) ⌝ }
+        ensures { λ r. ⌜ r ≡ pieceIn charge clock self ⌝ }
     {
-        if self.owes.is_longer(self.plan.work) {
+        if self.owes.is_longer(self.plan.charged(charge)) {
             return false;
         }
         let first = Instant::FIRST.plus(self.plan.offset);
@@ -89,15 +90,15 @@ impl Feed {
         true
     }
 
-    // The feed at this instant: where a piece comes then, it is ready, whole.
-    fn arrived(self, at: Instant) -> Feed
-        requires { ⌜ FeedIn self × (at .0 < 2 ^ 63) ⌝ }
-        ensures { λ r. ⌜ r ≡ arrived at self ⌝ }
+    // The feed at this instant: where a piece comes then, it is ready, whole, and owes the charge too.
+    fn arrived(self, charge: Length, at: Instant) -> Feed
+        requires { ⌜ FeedIn self × (charge .0 ≤ mostCharge) × (at .0 < 2 ^ 63) ⌝ }
+        ensures { λ r. ⌜ r ≡ arrived charge at self ⌝ }
     {
         if self.plan.since(at).is_none() {
-            let work = self.plan.work;
+            let owes = self.plan.charged(charge);
             let mut feed = self;
-            feed.owes = work;
+            feed.owes = owes;
             return feed;
         }
         self
@@ -159,24 +160,24 @@ impl Feeds {
         Length(round)
     }
 
-    // What the feeds want in a round.
-    pub fn load(self, round: Length) -> Length
-        requires { ⌜ (self .count ≤ mostFeeds) × (every feedIn (inUse self) ≡ true) × (round .0 ≤ mostRound) ⌝ }
-        ensures { λ r. ⌜ r ≡ ticks (load (round .0) (inUse self)) ⌝ }
+    // What the feeds want in a round, with the charge of each piece.
+    pub fn load(self, charge: Length, round: Length) -> Length
+        requires { ⌜ (self .count ≤ mostFeeds) × (every feedIn (inUse self) ≡ true) × (charge .0 ≤ mostCharge) × (round .0 ≤ mostRound) ⌝ }
+        ensures { λ r. ⌜ r ≡ ticks (load charge (round .0) (inUse self)) ⌝ }
     {
         let count = self.count;
         let mut sum = 0;
         for i in 0..count {
             let feed = self.feeds[i];
-            sum += feed.plan.share(round);
+            sum += feed.plan.share(charge, round);
         }
         Length(sum)
     }
 
     // Lines 2, 9 and 10.
-    pub fn sound(self) -> Verdict
-        requires { ⌜ self .count ≤ mostFeeds ⌝ }
-        ensures { λ r. ⌜ r ≡ firstOf (feedLines (inUse self)) ⌝ }
+    pub fn sound(self, charge: Length) -> Verdict
+        requires { ⌜ (self .count ≤ mostFeeds) × (charge .0 ≤ mostCharge) ⌝ }
+        ensures { λ r. ⌜ r ≡ firstOf (feedLines charge (inUse self)) ⌝ }
     {
         if !self.all_within() {
             return Verdict::No(Refusal::Outside);
@@ -185,52 +186,53 @@ impl Feeds {
         if !round.suits_round() {
             return Verdict::No(Refusal::RoundTooLong);
         }
-        if self.load(round).is_longer(round) {
+        if self.load(charge, round).is_longer(round) {
             return Verdict::No(Refusal::TooMuchLoad);
         }
         Verdict::Yes
     }
 
     // What a state in order says of the current pieces.
-    fn pieces_in(self, clock: Instant) -> bool
-        requires { ⌜ self .count ≤ mostFeeds ⌝ }
-        ensures { λ r. ⌜ r ≡ every (pieceIn clock) (inUse self) ⌝ }
+    fn pieces_in(self, charge: Length, clock: Instant) -> bool
+        requires { ⌜ (self .count ≤ mostFeeds) × (every feedIn (inUse self) ≡ true) × (charge .0 ≤ mostCharge) ⌝ }
+        ensures { λ r. ⌜ r ≡ every (pieceIn charge clock) (inUse self) ⌝ }
     {
         let count = self.count;
         for i in 0..count {
-            if !self.feeds[i].piece_in(clock) {
+            if !self.feeds[i].piece_in(charge, clock) {
                 return false;
             }
         }
         true
     }
 
-    // Whether any feeds that are handed in are in order at this instant: they would pass the opening, the current pieces are
-    // in order, and the unused places are all zero.
-    pub fn in_order(self, clock: Instant) -> bool
-        ensures { λ r. ⌜ r ≡ feedsPass clock self ⌝ }
+    // Whether any feeds that are handed in are in order at this instant, under this charge: they would pass the opening, the
+    // current pieces are in order, and the unused places are all zero.
+    pub fn in_order(self, charge: Length, clock: Instant) -> bool
+        requires { ⌜ charge .0 ≤ mostCharge ⌝ }
+        ensures { λ r. ⌜ r ≡ feedsPass charge clock self ⌝ }
     {
         if Feed::MOST < self.count {
             return false;
         }
-        if !self.sound().is_yes() {
+        if !self.sound(charge).is_yes() {
             return false;
         }
         if !self.rest_unused() {
             return false;
         }
-        self.pieces_in(clock)
+        self.pieces_in(charge, clock)
     }
 
     // The pieces that come at this instant are ready.
-    pub fn arrive(self, at: Instant) -> Feeds
-        requires { ⌜ Tidy self × Each FeedIn (inUse self) × (at .0 < 2 ^ 63) ⌝ }
-        ensures { λ r. ⌜ r ≡ feedsOf (map (arrived at) (inUse self)) ⌝ }
+    pub fn arrive(self, charge: Length, at: Instant) -> Feeds
+        requires { ⌜ Tidy self × Each FeedIn (inUse self) × (charge .0 ≤ mostCharge) × (at .0 < 2 ^ 63) ⌝ }
+        ensures { λ r. ⌜ r ≡ feedsOf (map (arrived charge at) (inUse self)) ⌝ }
     {
         let count = self.count;
         let mut next = self;
         for i in 0..count {
-            let feed = self.feeds[i].arrived(at);
+            let feed = self.feeds[i].arrived(charge, at);
             next.feeds[i] = feed;
         }
         next

@@ -1,9 +1,11 @@
 -- The tests of jobs, and the facts that they stand for.
 use mathlib.Core.Path.{_≡_, ap}
 use mathlib.Core.Bool.{true}
+use Prim.Native.Nat.{_+_}
 use native.Mathlib.Omega.{arith}
 use borrow.Author.Tests.{leb-true, le-leb, ltb-true, lt-ltb, eqb-true, eq-eqb}
 use Rattle.ticks.specs.declared.Instant.{Instant}
+use Rattle.ticks.specs.declared.Length.{Length}
 use Rattle.ticks.specs.Ticks.{mostJob, ticksSince, ticks, instant}
 use Rattle.lists.proofs.Tests.{all-of, all-of-made}
 use Rattle.ticks.proofs.Tests.{from-one, from-one-made}
@@ -13,26 +15,26 @@ use Rattle.jobs.specs.declared.Table.{Table}
 use Rattle.jobs.specs.Jobs.{jobIn, JobIn, unusedJob, noJob, tableIn, TableIn}
 use Rattle.jobs.proofs.Numbers.{distinct-once, once-distinct}
 
-pub job-in : (clock : Instant) (j : Job) → jobIn clock j ≡ true → JobIn clock j
+pub job-in : (charge : Length) (clock : Instant) (j : Job) → jobIn charge clock j ≡ true → JobIn charge clock j
 unfolding jobIn
-job-in clock j h =
+job-in charge clock j h =
     let t = all-of _ h in
     let lead = from-one mostJob (ticksSince (j .deadline) clock) (t .1 .1 .1 .0) in
     record {
       number = leb-true _ _ (t .0);
-      owed = from-one mostJob (j .owed) (t .1 .0);
+      owed = from-one (mostJob + charge .0) (j .owed) (t .1 .0);
       ahead = ltb-true _ _ (t .1 .1 .0);
       near = omega arith;
       within = leb-true _ _ (t .1 .1 .1 .1 .0);
     }
 
-pub job-in-made : (clock : Instant) (j : Job) → JobIn clock j → jobIn clock j ≡ true
+pub job-in-made : (charge : Length) (clock : Instant) (j : Job) → JobIn charge clock j → jobIn charge clock j ≡ true
 unfolding jobIn
-job-in-made clock j h =
+job-in-made charge clock j h =
     all-of-made _ (
       le-leb _ _ (h .number),
       (
-        from-one-made mostJob (j .owed) (h .owed .0) (h .owed .1),
+        from-one-made (mostJob + charge .0) (j .owed) (h .owed .0) (h .owed .1),
         (
           lt-ltb _ _ (h .ahead),
           (from-one-made mostJob (ticksSince (j .deadline) clock) (omega arith) (omega arith), (le-leb _ _ (h .within), tt)),
@@ -58,24 +60,24 @@ unused-job-made j h =
     )
 
 -- a table in order, as facts
-pub table-in : (clock : Instant) (s : Table) → tableIn clock s ≡ true → TableIn clock s
+pub table-in : (charge : Length) (clock : Instant) (s : Table) → tableIn charge clock s ≡ true → TableIn charge clock s
 unfolding tableIn
-table-in clock s h =
+table-in charge clock s h =
     let t = all-of _ h in
     record {
       few = leb-true _ _ (t .0);
-      each = each-of-every (jobIn clock) (JobIn clock) (job-in clock) _ (t .1 .0);
+      each = each-of-every (jobIn charge clock) (JobIn charge clock) (job-in charge clock) _ (t .1 .0);
       once = distinct-once _ (t .1 .1 .0);
       unused = each-of-every unusedJob (λ j. j ≡ noJob) unused-job _ (t .1 .1 .1 .0);
     }
 
-pub table-in-made : (clock : Instant) (s : Table) → TableIn clock s → tableIn clock s ≡ true
+pub table-in-made : (charge : Length) (clock : Instant) (s : Table) → TableIn charge clock s → tableIn charge clock s ≡ true
 unfolding tableIn
-table-in-made clock s h =
+table-in-made charge clock s h =
     all-of-made _ (
       le-leb _ _ (h .few),
       (
-        every-of-each (jobIn clock) (JobIn clock) (job-in-made clock) _ (h .each),
+        every-of-each (jobIn charge clock) (JobIn charge clock) (job-in-made charge clock) _ (h .each),
         (
           once-distinct _ (h .once),
           (every-of-each unusedJob (λ j. j ≡ noJob) unused-job-made _ (h .unused), tt),

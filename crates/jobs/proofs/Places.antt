@@ -9,6 +9,7 @@ use native.Mathlib.Omega.{arith}
 use lib.ListN.{length, getD, take, drop, set, length-append, length-set}
 use lib.Seq.{length-take-le, getD-take, paste}
 use Rattle.ticks.specs.declared.Instant.{Instant}
+use Rattle.ticks.specs.declared.Length.{Length}
 use Rattle.lists.specs.Lists.{Each, filled, bit}
 use Rattle.lists.proofs.Places.{filled-more, filled-of-unused, filled-without, length-without, take-filled, length-filled, filled-set, unused-of-filled}
 use Rattle.lists.proofs.Lists.{each-append, total-append}
@@ -25,8 +26,8 @@ tidy t l h e =
     let many : length (live t) ≡ t .count = length-take-le (t .count) (t .jobs) (omega arith) in
     record { few = h; filled = λ i. record { count = sym many i; jobs = places i } }
 
-pub tidy-in : (clock : Instant) (t : Table) → length (t .jobs) ≡ mostJobs → TableIn clock t → Tidy t
-tidy-in clock t l h = tidy t l (h .few) (h .unused)
+pub tidy-in : (charge : Length) (clock : Instant) (t : Table) → length (t .jobs) ≡ mostJobs → TableIn charge clock t → Tidy t
+tidy-in charge clock t l h = tidy t l (h .few) (h .unused)
 
 pub live-of : (js : List Job) → live (tableOf js) ≡ js
 live-of js = take-filled mostJobs noJob js
@@ -85,25 +86,25 @@ one-changed t at j k h =
     λ i. record { count = count i; jobs = places i }
 
 -- a table in order, as a list of jobs
-pub jobs-in : (clock : Instant) (t : Table) → length (t .jobs) ≡ mostJobs → TableIn clock t → JobsIn clock (live t)
-jobs-in clock t l h =
-    let many = live-count t (tidy-in clock t l h) in
+pub jobs-in : (charge : Length) (clock : Instant) (t : Table) → length (t .jobs) ≡ mostJobs → TableIn charge clock t → JobsIn charge clock (live t)
+jobs-in charge clock t l h =
+    let many = live-count t (tidy-in charge clock t l h) in
     record { few = omega (arith, h .few); each = h .each; once = h .once }
 
-pub jobs-in-table : (clock : Instant) (js : List Job) → JobsIn clock js → TableIn clock (tableOf js)
-jobs-in-table clock js h =
-    let p : JobsIn clock (live (tableOf js)) = subst (JobsIn clock) (sym (live-of js)) h in
+pub jobs-in-table : (charge : Length) (clock : Instant) (js : List Job) → JobsIn charge clock js → TableIn charge clock (tableOf js)
+jobs-in-table charge clock js h =
+    let p : JobsIn charge clock (live (tableOf js)) = subst (JobsIn charge clock) (sym (live-of js)) h in
     record { few = h .few; each = p .each; once = p .once; unused = unused-of-filled mostJobs noJob js }
 
 -- one more job in order, under a number that no live job has
 pub jobs-in-taken :
-    (clock : Instant) (js : List Job) (j : Job) → JobsIn clock js → length js < mostJobs → JobIn clock j →
-    times (j .number) js ≡ 0 → JobsIn clock (js ++ (j ∷ []))
-jobs-in-taken clock js j h l i free =
+    (charge : Length) (clock : Instant) (js : List Job) (j : Job) → JobsIn charge clock js → length js < mostJobs → JobIn charge clock j →
+    times (j .number) js ≡ 0 → JobsIn charge clock (js ++ (j ∷ []))
+jobs-in-taken charge clock js j h l i free =
     let more : length (js ++ (j ∷ [])) ≡ length js + 1 = length-append js (j ∷ []) in
     record {
       few = omega arith;
-      each = each-append (JobIn clock) js (j ∷ []) (h .each) (i, tt);
+      each = each-append (JobIn charge clock) js (j ∷ []) (h .each) (i, tt);
       once = λ n. go n (eqb n (j .number)) refl;
     }
   where

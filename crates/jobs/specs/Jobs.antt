@@ -7,7 +7,7 @@ use lib.Dec.{leb, ltb, eqb}
 use lib.ListN.{length, getD, take, drop}
 use Rattle.ticks.specs.declared.Instant.{Instant}
 use Rattle.ticks.specs.declared.Length.{Length}
-use Rattle.ticks.specs.Ticks.{lastInstant, mostJob, within, jobLength, ticksSince, ticks, instant}
+use Rattle.ticks.specs.Ticks.{lastInstant, mostJob, within, jobLength, owedLength, ticksSince, ticks, instant}
 use Rattle.lists.specs.Lists.{every, Each, total, bit, allOf, filled, keep}
 use Rattle.jobs.specs.declared.Job.{Job}
 use Rattle.jobs.specs.declared.Table.{Table}
@@ -26,9 +26,9 @@ numbersAJob = 3
 abbrev pub noJob : Job
 noJob = record { number = 0; owed = ticks 0; deadline = instant 0 }
 
--- a job that owes all its work
+-- a job of this number that owes so much by then
 abbrev pub job : ℕ → Length → Instant → Job
-job number work deadline = record { number = number; owed = work; deadline = deadline }
+job number owed deadline = record { number = number; owed = owed; deadline = deadline }
 
 -- the live jobs, in the order of their yes
 abbrev pub live : Table → List Job
@@ -65,22 +65,22 @@ distinct (j ∷ js) = lacks (j .number) js && distinct js
 abbrev pub times : ℕ → List Job → ℕ
 times n js = total (λ j. bit (eqb n (j .number))) js
 
--- a live job in order: not numbered 0, owing what a job may owe, its deadline after the clock, no further ahead than a
--- lead may be, and one that the clock can read
-unfoldable pub jobIn : Instant → Job → Bool
-jobIn clock j =
+-- a live job in order under a charge: not numbered 0, owing what a job may owe, its deadline after the clock, no further
+-- ahead than a lead may be, and one that the clock can read
+unfoldable pub jobIn : Length → Instant → Job → Bool
+jobIn charge clock j =
     allOf
     (leb 1 (j .number)
-    ∷ jobLength (j .owed)
+    ∷ owedLength charge (j .owed)
     ∷ ltb (clock .0) (j .deadline .0)
     ∷ jobLength (ticksSince (j .deadline) clock)
     ∷ within (j .deadline)
     ∷ [])
 
 -- the same, as facts
-pub record JobIn (clock : Instant) (j : Job) : Type 0 where
+pub record JobIn (charge : Length) (clock : Instant) (j : Job) : Type 0 where
   pub number : 1 ≤ j .number
-  pub owed : (1 ≤ j .owed .0) × (j .owed .0 ≤ mostJob)
+  pub owed : (1 ≤ j .owed .0) × (j .owed .0 ≤ mostJob + charge .0)
   pub ahead : clock .0 < j .deadline .0
   pub near : j .deadline .0 ≤ clock .0 + mostJob
   pub within : j .deadline .0 ≤ lastInstant
@@ -91,26 +91,26 @@ unusedJob j = allOf (eqb (j .number) 0 ∷ eqb (j .owed .0) 0 ∷ eqb (j .deadli
 
 -- the jobs of a state in order: at most 64; each in order at the clock's instant; no number twice; the unused places
 -- all zero
-unfoldable pub tableIn : Instant → Table → Bool
-tableIn clock t =
+unfoldable pub tableIn : Length → Instant → Table → Bool
+tableIn charge clock t =
     allOf
     (leb (t .count) mostJobs
-    ∷ every (jobIn clock) (live t)
+    ∷ every (jobIn charge clock) (live t)
     ∷ distinct (live t)
     ∷ every unusedJob (drop (t .count) (t .jobs))
     ∷ [])
 
 -- the same, as facts
-pub record TableIn (clock : Instant) (t : Table) : Type 0 where
+pub record TableIn (charge : Length) (clock : Instant) (t : Table) : Type 0 where
   pub few : t .count ≤ mostJobs
-  pub each : Each (JobIn clock) (live t)
+  pub each : Each (JobIn charge clock) (live t)
   pub once : (n : ℕ) → times n (live t) ≤ 1
   pub unused : Each (λ j. j ≡ noJob) (drop (t .count) (t .jobs))
 
 -- the same of a list of jobs
-pub record JobsIn (clock : Instant) (js : List Job) : Type 0 where
+pub record JobsIn (charge : Length) (clock : Instant) (js : List Job) : Type 0 where
   pub few : length js ≤ mostJobs
-  pub each : Each (JobIn clock) js
+  pub each : Each (JobIn charge clock) js
   pub once : (n : ℕ) → times n js ≤ 1
 
 -- the jobs with another number

@@ -9,6 +9,7 @@ ghost use mathlib.Core.List.{[], _∷_, _++_};
 ghost use Prim.Native.Nat.{ℕ, _+_, _≤_, _<_};
 ghost use lib.ListN.{take, drop};
 ghost use Rattle.lists.specs.Lists.{every, Each};
+ghost use Rattle.ticks.specs.Ticks.{mostCharge};
 ghost use Rattle.jobs.specs.Jobs.{mostJobs, numbersAJob, noJob, job, jobIn, unusedJob, live, tableOf, Tidy, foundIn, distinct};
 ghost use Rattle.jobs.specs.Jobs.{tableIn, times, lacks, others};
 ghost use Rattle.jobs.specs.Served.{Owing, served};
@@ -66,25 +67,26 @@ impl Job {
         Job::NONE
     }
 
-    // A job as it is taken: it owes all its work.
-    pub fn of(number: u32, work: Length, deadline: Instant) -> Job
-        ensures { λ r. ⌜ r ≡ job number work deadline ⌝ }
+    // A job as it is taken: it owes all its work, and the charge.
+    pub fn of(number: u32, owed: Length, deadline: Instant) -> Job
+        ensures { λ r. ⌜ r ≡ job number owed deadline ⌝ }
     {
         Job {
             number,
-            owed: work,
+            owed,
             deadline,
         }
     }
 
-    // A live job that is in order at this instant.
-    pub fn within(self, clock: Instant) -> bool
-        ensures { λ r. ⌜ r ≡ jobIn clock self ⌝ }
+    // A live job that is in order at this instant, under this charge.
+    pub fn within(self, charge: Length, clock: Instant) -> bool
+        requires { ⌜ charge .0 ≤ mostCharge ⌝ }
+        ensures { λ r. ⌜ r ≡ jobIn charge clock self ⌝ }
     {
         if self.number < Job::LOWEST {
             return false;
         }
-        if !self.owed.suits_job() {
+        if !self.owed.suits_owed(charge) {
             return false;
         }
         if !self.deadline.is_after(clock) {
@@ -119,13 +121,13 @@ impl Table {
         }
     }
 
-    fn all_within(self, clock: Instant) -> bool
-        requires { ⌜ self .count ≤ mostJobs ⌝ }
-        ensures { λ r. ⌜ r ≡ every (jobIn clock) (live self) ⌝ }
+    fn all_within(self, charge: Length, clock: Instant) -> bool
+        requires { ⌜ (self .count ≤ mostJobs) × (charge .0 ≤ mostCharge) ⌝ }
+        ensures { λ r. ⌜ r ≡ every (jobIn charge clock) (live self) ⌝ }
     {
         let count = self.count;
         for i in 0..count {
-            if !self.jobs[i].within(clock) {
+            if !self.jobs[i].within(charge, clock) {
                 return false;
             }
         }
@@ -188,14 +190,15 @@ impl Table {
         true
     }
 
-    // Whether any table that is handed in is in order at this instant.
-    pub fn in_order(self, clock: Instant) -> bool
-        ensures { λ r. ⌜ r ≡ tableIn clock self ⌝ }
+    // Whether any table that is handed in is in order at this instant, under this charge.
+    pub fn in_order(self, charge: Length, clock: Instant) -> bool
+        requires { ⌜ charge .0 ≤ mostCharge ⌝ }
+        ensures { λ r. ⌜ r ≡ tableIn charge clock self ⌝ }
     {
         if Job::MOST < self.count {
             return false;
         }
-        if !self.all_within(clock) {
+        if !self.all_within(charge, clock) {
             return false;
         }
         if !self.no_number_twice() {

@@ -4,6 +4,7 @@ use mathlib.Core.List.{List, [], _∷_, map}
 use Prim.Native.Nat.{ℕ, suc}
 use native.Mathlib.Omega.{arith}
 use lib.ListN.{length, getD, drop, length-map}
+use Rattle.ticks.specs.declared.Length.{Length}
 use Rattle.ticks.specs.Ticks.{ticks, instant}
 use Rattle.feeds.specs.declared.Feed.{Feed}
 use Rattle.feeds.specs.Feeds.{owing, inUse, plansOf, feedsOf}
@@ -27,9 +28,9 @@ module _ {A : Type 0} (x y : A) (xs ys : List A) (e : x ∷ xs ≡ y ∷ ys) whe
   tail-same = ap (λ l. drop 1 l) e
 
 -- what is owed is written back as it was
-pub owing-as-read : (k : ℕ) (fs : List Feed) → owingAs (bookFeeds k fs) fs ≡ fs
-owing-as-read k [] = refl
-owing-as-read k (f ∷ fs) = ap (f ∷_) (owing-as-read (suc k) fs)
+pub owing-as-read : (charge : Length) (k : ℕ) (fs : List Feed) → owingAs (bookFeeds charge k fs) fs ≡ fs
+owing-as-read charge k [] = refl
+owing-as-read charge k (f ∷ fs) = ap (f ∷_) (owing-as-read charge (suc k) fs)
 
 -- no plan changes
 pub owing-as-plans : (gs : List edf.Feed) (fs : List Feed) → plansOf (owingAs gs fs) ≡ plansOf fs
@@ -52,15 +53,15 @@ owing-as-alike (g ∷ gs) (f ∷ fs) (h ∷ hs) l e =
     ∷ owing-as-alike gs fs hs (omega arith) (tail-same (f .plan) (h .plan) (plansOf fs) (plansOf hs) e) i
 
 -- feeds of the book at the state's positions and by its plans are read as they were
-pub read-owing-as : (k : ℕ) (gs : List edf.Feed) (fs : List Feed) → edf.positions gs ≡ edf.positions (bookFeeds k fs)
-    → edf.plans gs ≡ edf.plans (bookFeeds k fs) → bookFeeds k (owingAs gs fs) ≡ gs
-read-owing-as k [] [] p q = refl
-read-owing-as k [] (f ∷ fs) p q = absurd (omega (arith, ap length p))
-read-owing-as k (g ∷ gs) [] p q = absurd (omega (arith, ap length p))
-read-owing-as k (g ∷ gs) (f ∷ fs) p q =
-    let at = head-same (g .position) k (edf.positions gs) (edf.positions (bookFeeds (suc k) fs)) p in
-    let plan = head-same (g .plan) (bookPlan (f .plan)) (edf.plans gs) (edf.plans (bookFeeds (suc k) fs)) q in
-    let rest = read-owing-as (suc k) gs fs (tail-same (g .position) k (edf.positions gs) (edf.positions (bookFeeds (suc k) fs)) p) (tail-same (g .plan) (bookPlan (f .plan)) (edf.plans gs) (edf.plans (bookFeeds (suc k) fs)) q) in
+pub read-owing-as : (charge : Length) (k : ℕ) (gs : List edf.Feed) (fs : List Feed) → edf.positions gs ≡ edf.positions (bookFeeds charge k fs)
+    → edf.plans gs ≡ edf.plans (bookFeeds charge k fs) → bookFeeds charge k (owingAs gs fs) ≡ gs
+read-owing-as charge k [] [] p q = refl
+read-owing-as charge k [] (f ∷ fs) p q = absurd (omega (arith, ap length p))
+read-owing-as charge k (g ∷ gs) [] p q = absurd (omega (arith, ap length p))
+read-owing-as charge k (g ∷ gs) (f ∷ fs) p q =
+    let at = head-same (g .position) k (edf.positions gs) (edf.positions (bookFeeds charge (suc k) fs)) p in
+    let plan = head-same (g .plan) (bookPlan charge (f .plan)) (edf.plans gs) (edf.plans (bookFeeds charge (suc k) fs)) q in
+    let rest = read-owing-as charge (suc k) gs fs (tail-same (g .position) k (edf.positions gs) (edf.positions (bookFeeds charge (suc k) fs)) p) (tail-same (g .plan) (bookPlan charge (f .plan)) (edf.plans gs) (edf.plans (bookFeeds charge (suc k) fs)) q) in
     λ i. record { position = sym at i; plan = sym plan i; owes = g .owes } ∷ rest i
 
 pub jobs-of-book : (js : List Job) → map jobOf (map bookJob js) ≡ js
@@ -75,8 +76,8 @@ book-of-jobs (j ∷ js) = ap (j ∷_) (book-of-jobs js)
 pub book-of-rewritten : (l : Ledger) (b : edf.Book) → SameFeeds l b → bookOf (rewritten l b) ≡ b
 book-of-rewritten l b s =
     let gs = owingAs (b .feeds) (inUse (l .feeds)) in
-    let fs : bookFeeds 1 (inUse (feedsOf gs)) ≡ b .feeds
-    = ap (bookFeeds 1) (in-use-of gs) ∙ read-owing-as 1 (b .feeds) (inUse (l .feeds)) (s .positions) (s .plans) in
+    let fs : bookFeeds (l .charge) 1 (inUse (feedsOf gs)) ≡ b .feeds
+    = ap (bookFeeds (l .charge) 1) (in-use-of gs) ∙ read-owing-as (l .charge) 1 (b .feeds) (inUse (l .feeds)) (s .positions) (s .plans) in
     let js : map bookJob (live (tableOf (map jobOf (b .jobs)))) ≡ b .jobs
     = ap (map bookJob) (live-of (map jobOf (b .jobs))) ∙ book-of-jobs (b .jobs) in
     λ i. record { clock = b .clock; feeds = fs i; jobs = js i }
@@ -84,7 +85,7 @@ book-of-rewritten l b s =
 -- A STATE IS WRITTEN BACK FROM ITS OWN BOOK AS IT WAS
 pub rewritten-own : (l : Ledger) → InOrder l → rewritten l (bookOf l) ≡ l
 rewritten-own l h =
-    let fs = ap feedsOf (owing-as-read 1 (inUse (l .feeds))) ∙ sym (h .tidyFeeds .filled) in
+    let fs = ap feedsOf (owing-as-read (l .charge) 1 (inUse (l .feeds))) ∙ sym (h .tidyFeeds .filled) in
     let js = ap tableOf (jobs-of-book (live (l .table))) ∙ sym (h .tidyTable .filled) in
     λ i. moved l (l .clock) (fs i) (js i)
 

@@ -11,6 +11,7 @@ use Rattle.lists.specs.Lists.{bit, eq, total, Each}
 use Rattle.lists.proofs.Lists.{each-imp, each-both, each-map, total-map}
 use Rattle.lists.proofs.Tests.{eq-elim, all-of, all-of-made}
 use Rattle.ticks.specs.declared.Instant.{Instant}
+use Rattle.ticks.specs.declared.Length.{Length}
 use Rattle.ticks.specs.Ticks.{instant, ticks}
 use Rattle.plans.specs.Plans.{share}
 use Rattle.feeds.specs.declared.Feed.{Feed}
@@ -40,103 +41,100 @@ pub in-order : (l : Ledger) → Sized l → inOrder l ≡ true → InOrder l
 unfolding inOrder
 in-order l s h =
     let t = all-of _ h in
-    let fs = feeds-pass (l .clock) (l .feeds) (t .1 .0) in
-    let js = table-in (l .clock) (l .table) (t .1 .1 .0) in
+    let fs = feeds-pass (l .charge) (l .clock) (l .feeds) (t .1 .1 .0) in
+    let js = table-in (l .charge) (l .clock) (l .table) (t .1 .1 .1 .0) in
     record {
       clock = leb-true _ _ (t .0);
+      charge = leb-true _ _ (t .1 .0);
       feeds = fs .feeds;
-      jobs = jobs.jobs-in (l .clock) (l .table) (s .jobs) js;
-      tidyFeeds = feeds-tidy (l .clock) (l .feeds) (s .feeds) fs;
-      tidyTable = jobs.tidy-in (l .clock) (l .table) (s .jobs) js;
+      jobs = jobs.jobs-in (l .charge) (l .clock) (l .table) (s .jobs) js;
+      tidyFeeds = feeds-tidy (l .charge) (l .clock) (l .feeds) (s .feeds) fs;
+      tidyTable = jobs.tidy-in (l .charge) (l .clock) (l .table) (s .jobs) js;
     }
 
 -- and back
 pub in-order-made : (l : Ledger) → InOrder l → inOrder l ≡ true
 unfolding inOrder
 in-order-made l h =
-    all-of-made _ (
-      le-leb _ _ (h .clock),
-      (
-        ap (λ s. Rattle.feeds.specs.Lines.feedsPass (l .clock) s) (h .tidyFeeds .filled) ∙ feeds-pass-of (inUse (l .feeds)) (l .clock) (h .feeds),
-        (
-          ap (λ t. Rattle.jobs.specs.Jobs.tableIn (l .clock) t) (h .tidyTable .filled)
-              ∙ table-in-made (l .clock) (tableOf (live (l .table))) (jobs.jobs-in-table (l .clock) (live (l .table)) (h .jobs)),
-          tt,
-        ),
-      ),
-    )
+    let c = l .charge in
+    let fs = ap (λ s. Rattle.feeds.specs.Lines.feedsPass c (l .clock) s) (h .tidyFeeds .filled) ∙ feeds-pass-of (inUse (l .feeds)) c (l .clock) (h .feeds) in
+    let js = ap (λ t. Rattle.jobs.specs.Jobs.tableIn c (l .clock) t) (h .tidyTable .filled)
+    ∙ table-in-made c (l .clock) (tableOf (live (l .table))) (jobs.jobs-in-table c (l .clock) (live (l .table)) (h .jobs)) in
+    all-of-made _ (le-leb _ _ (h .clock), (le-leb _ _ (h .charge), (fs, (js, tt))))
 
 -- a feed in order at its place
-feed-in-order : (clock : Instant) (k : ℕ) (f : Feed) → FeedIn f → PieceIn clock f → FeedInOrder (clock .0) (bookFeed k f)
-feed-in-order clock k f h p =
+feed-in-order : (c : Length) (clock : Instant) (k : ℕ) (f : Feed) → FeedIn f → PieceIn c clock f → FeedInOrder (clock .0) (bookFeed c k f)
+feed-in-order c clock k f h p =
     record {
       plan = record { offset = h .offset; lead = h .period .0; short = omega arith };
       owes = p .owes;
       early = p .early;
-      over = λ l. absurd (omega (arith, since-lt (bookPlan (f .plan)) (clock .0) (h .offset)));
+      over = λ l. absurd (omega (arith, since-lt (bookPlan c (f .plan)) (clock .0) (h .offset)));
     }
 
-feeds-in-order : (clock : Instant) (k : ℕ) (fs : List Feed) → Each FeedIn fs → Each (PieceIn clock) fs → Each (FeedInOrder (clock .0)) (bookFeeds k fs)
-feeds-in-order clock k [] h p = tt
-feeds-in-order clock k (f ∷ fs) h p =
-    (feed-in-order clock k f (h .0) (p .0), feeds-in-order clock (suc k) fs (h .1) (p .1))
+feeds-in-order : (c : Length) (clock : Instant) (k : ℕ) (fs : List Feed) → Each FeedIn fs → Each (PieceIn c clock) fs
+    → Each (FeedInOrder (clock .0)) (bookFeeds c k fs)
+feeds-in-order c clock k [] h p = tt
+feeds-in-order c clock k (f ∷ fs) h p =
+    (feed-in-order c clock k f (h .0) (p .0), feeds-in-order c clock (suc k) fs (h .1) (p .1))
 
 -- no position below the first, and none twice
-none-before : (n k : ℕ) (fs : List Feed) → n < k → total (λ f. eq n (f .position)) (bookFeeds k fs) ≡ 0
-none-before n k [] h = refl
-none-before n k (f ∷ fs) h =
-    omega (arith, none-before n (suc k) fs (omega arith), eq-elim (λ e. e ≡ 0) n k (λ p. absurd (omega arith)) (λ p. refl))
+none-before : (c : Length) (n k : ℕ) (fs : List Feed) → n < k → total (λ f. eq n (f .position)) (bookFeeds c k fs) ≡ 0
+none-before c n k [] h = refl
+none-before c n k (f ∷ fs) h =
+    omega (arith, none-before c n (suc k) fs (omega arith), eq-elim (λ e. e ≡ 0) n k (λ p. absurd (omega arith)) (λ p. refl))
 
-pub positions-once : (n k : ℕ) (fs : List Feed) → total (λ f. eq n (f .position)) (bookFeeds k fs) ≤ 1
-positions-once n k [] = omega arith
-positions-once n k (f ∷ fs) =
-    eq-elim (λ e. e + total (λ g. eq n (g .position)) (bookFeeds (suc k) fs) ≤ 1) n k
-    (λ p. omega (arith, none-before n (suc k) fs (omega arith)))
-    (λ p. omega (arith, positions-once n (suc k) fs))
+pub positions-once : (c : Length) (n k : ℕ) (fs : List Feed) → total (λ f. eq n (f .position)) (bookFeeds c k fs) ≤ 1
+positions-once c n k [] = omega arith
+positions-once c n k (f ∷ fs) =
+    eq-elim (λ e. e + total (λ g. eq n (g .position)) (bookFeeds c (suc k) fs) ≤ 1) n k
+    (λ p. omega (arith, none-before c n (suc k) fs (omega arith)))
+    (λ p. omega (arith, positions-once c n (suc k) fs))
 
 -- the round of the feeds carries them
-common-of : (R k : ℕ) (fs : List Feed) → Each (λ p. p ∣ R) (periods fs) → Each (λ p. p .period ∣ R) (edf.plans (bookFeeds k fs))
-common-of R k [] h = tt
-common-of R k (f ∷ fs) h = (h .0, common-of R (suc k) fs (h .1))
+common-of : (c : Length) (R k : ℕ) (fs : List Feed) → Each (λ p. p ∣ R) (periods fs) → Each (λ p. p .period ∣ R) (edf.plans (bookFeeds c k fs))
+common-of c R k [] h = tt
+common-of c R k (f ∷ fs) h = (h .0, common-of c R (suc k) fs (h .1))
 
-load-of : (R k : ℕ) (fs : List Feed) → total (aRound R) (edf.plans (bookFeeds k fs)) ≡ load R fs
-load-of R k [] = refl
-load-of R k (f ∷ fs) = ap (share R (f .plan) +_) (load-of R (suc k) fs)
+load-of : (c : Length) (R k : ℕ) (fs : List Feed) → total (aRound R) (edf.plans (bookFeeds c k fs)) ≡ load c R fs
+load-of c R k [] = refl
+load-of c R k (f ∷ fs) = ap (share c R (f .plan) +_) (load-of c R (suc k) fs)
 
-leads-of : (k : ℕ) (fs : List Feed) → Each (λ p. p .lead ≡ p .period) (edf.plans (bookFeeds k fs))
-leads-of k [] = tt
-leads-of k (f ∷ fs) = (refl, leads-of (suc k) fs)
+leads-of : (c : Length) (k : ℕ) (fs : List Feed) → Each (λ p. p .lead ≡ p .period) (edf.plans (bookFeeds c k fs))
+leads-of c k [] = tt
+leads-of c k (f ∷ fs) = (refl, leads-of c (suc k) fs)
 
 -- FEEDS THAT PASS ARE LIGHT, and their round is a round of the mathematics
-pub book-round : (k : ℕ) (fs : List Feed) → Passing fs → Round (roundOf (periods fs)) (edf.plans (bookFeeds k fs))
-book-round k fs h =
+pub book-round : (c : Length) (k : ℕ) (fs : List Feed) → Passing c fs → Round (roundOf (periods fs)) (edf.plans (bookFeeds c k fs))
+book-round c k fs h =
     let R = roundOf (periods fs) in
     record {
       positive = h .round .some;
-      common = common-of R k fs (h .round .common);
-      carried = subst (_≤ R) (sym (load-of R k fs)) (h .carried);
+      common = common-of c R k fs (h .round .common);
+      carried = subst (_≤ R) (sym (load-of c R k fs)) (h .carried);
     }
 
-pub book-light : (k : ℕ) (fs : List Feed) → Passing fs → Light (edf.plans (bookFeeds k fs))
-book-light k fs h = round-is-light (roundOf (periods fs)) (edf.plans (bookFeeds k fs)) (book-round k fs h) (leads-of k fs)
+pub book-light : (c : Length) (k : ℕ) (fs : List Feed) → Passing c fs → Light (edf.plans (bookFeeds c k fs))
+book-light c k fs h = round-is-light (roundOf (periods fs)) (edf.plans (bookFeeds c k fs)) (book-round c k fs h) (leads-of c k fs)
 
 -- IN ORDER, READ AS A BOOK
-pub book-in-order : (clock : Instant) (fs : List Feed) (js : List Job) → FeedsIn clock fs → JobsIn clock js → BookInOrder (bookAt clock fs js)
+pub book-in-order : (c : Length) (clock : Instant) (fs : List Feed) (js : List Job) → FeedsIn c clock fs → JobsIn c clock js
+    → BookInOrder (bookAt c clock fs js)
 unfolding eq
-book-in-order clock fs js h j =
+book-in-order c clock fs js h j =
     record {
-      feeds = feeds-in-order clock 1 fs (h .passing .within) (h .pieces);
+      feeds = feeds-in-order c clock 1 fs (h .passing .within) (h .pieces);
       jobs = each-map (JobInOrder (clock .0)) bookJob js
-          (each-imp (JobIn clock) (λ k. JobInOrder (clock .0) (bookJob k)) (λ k i. record { owes = i .owed .0; ahead = i .ahead }) js (j .each));
-      positions = λ n. positions-once n 1 fs;
+          (each-imp (JobIn c clock) (λ k. JobInOrder (clock .0) (bookJob k)) (λ k i. record { owes = i .owed .0; ahead = i .ahead }) js (j .each));
+      positions = λ n. positions-once c n 1 fs;
       numbers = λ n. subst (_≤ 1) (sym (total-map (λ k. eq n (k .number)) bookJob js)) (j .once n);
     }
 
 pub state-in-order : (l : Ledger) → InOrder l → BookInOrder (bookOf l)
-state-in-order l h = book-in-order (l .clock) (inUse (l .feeds)) (live (l .table)) (h .feeds) (h .jobs)
+state-in-order l h = book-in-order (l .charge) (l .clock) (inUse (l .feeds)) (live (l .table)) (h .feeds) (h .jobs)
 
 pub state-light : (l : Ledger) → InOrder l → Light (edf.plans (bookOf l .feeds))
-state-light l h = book-light 1 (inUse (l .feeds)) (h .feeds .passing)
+state-light l h = book-light (l .charge) 1 (inUse (l .feeds)) (h .feeds .passing)
 
 pub state-held : (l : Ledger) → InOrder l → Held l (bookOf l)
 state-held l h =
@@ -147,27 +145,28 @@ state-held l h =
       clock = h .clock;
       feeds = record { positions = refl; plans = refl };
       few = omega (arith, h .jobs .few);
-      jobs = each-map (JobHeld (l .clock .0)) bookJob js
-          (each-imp (JobIn (l .clock)) (λ j. JobHeld (l .clock .0) (bookJob j))
+      jobs = each-map (JobHeld (l .charge) (l .clock .0)) bookJob js
+          (each-imp (JobIn (l .charge) (l .clock)) (λ j. JobHeld (l .charge) (l .clock .0) (bookJob j))
           (λ j k. record { number = k .number; owes = k .owed .1; near = k .near; within = k .within })
           js
           (h .jobs .each));
     }
 
 -- the current pieces of feeds in the book
-pieces-written : (t k : ℕ) (fs : List Feed) → Each (FeedInOrder t) (bookFeeds k fs) → Each (PieceIn (instant t)) fs
-pieces-written t k [] h = tt
-pieces-written t k (f ∷ fs) h = (record { owes = h .0 .owes; early = h .0 .early }, pieces-written t (suc k) fs (h .1))
+pieces-written : (c : Length) (t k : ℕ) (fs : List Feed) → Each (FeedInOrder t) (bookFeeds c k fs) → Each (PieceIn c (instant t)) fs
+pieces-written c t k [] h = tt
+pieces-written c t k (f ∷ fs) h = (record { owes = h .0 .owes; early = h .0 .early }, pieces-written c t (suc k) fs (h .1))
 
 -- the jobs of a book that a table can hold
-jobs-written : (b : edf.Book) → BookInOrder b → length (b .jobs) ≤ Rattle.jobs.specs.Jobs.mostJobs → Each (JobHeld (b .clock)) (b .jobs) → JobsIn (instant (b .clock)) (map jobOf (b .jobs))
+jobs-written : (c : Length) (b : edf.Book) → BookInOrder b → length (b .jobs) ≤ Rattle.jobs.specs.Jobs.mostJobs
+    → Each (JobHeld c (b .clock)) (b .jobs) → JobsIn c (instant (b .clock)) (map jobOf (b .jobs))
 unfolding eq
-jobs-written b o few h =
+jobs-written c b o few h =
     let many : length (map jobOf (b .jobs)) ≡ length (b .jobs) = length-map (b .jobs) jobOf in
     record {
       few = omega arith;
-      each = each-map (JobIn (instant (b .clock))) jobOf (b .jobs)
-          (each-imp (λ j. JobInOrder (b .clock) j × JobHeld (b .clock) j) (λ j. JobIn (instant (b .clock)) (jobOf j))
+      each = each-map (JobIn c (instant (b .clock))) jobOf (b .jobs)
+          (each-imp (λ j. JobInOrder (b .clock) j × JobHeld c (b .clock) j) (λ j. JobIn c (instant (b .clock)) (jobOf j))
           (λ j k. record {
             number = k .1 .number;
             owed = (k .0 .owes, k .1 .owes);
@@ -176,7 +175,7 @@ jobs-written b o few h =
             within = k .1 .within;
           })
           (b .jobs)
-          (each-both (JobInOrder (b .clock)) (JobHeld (b .clock)) (b .jobs) (o .jobs) h));
+          (each-both (JobInOrder (b .clock)) (JobHeld c (b .clock)) (b .jobs) (o .jobs) h));
       once = λ n. subst (_≤ 1) (sym (total-map (λ j. bit (eqb n (j .number))) jobOf (b .jobs))) (o .numbers n);
     }
 
@@ -186,14 +185,16 @@ rewritten-in-order l b o h =
     let fs = inUse (l .feeds) in
     let gs = owingAs (b .feeds) fs in
     let js = map jobOf (b .jobs) in
-    let passing : Passing gs = same-passing fs gs (sym (owing-as-plans (b .feeds) fs)) (o .feeds .passing) in
-    let read : bookFeeds 1 gs ≡ b .feeds = read-owing-as 1 (b .feeds) fs (h .feeds .positions) (h .feeds .plans) in
-    let pieces = pieces-written (b .clock) 1 gs (subst (Each (FeedInOrder (b .clock))) (sym read) (h .order .feeds)) in
-    let table = jobs-written b (h .order) (h .few) (h .jobs) in
+    let c = l .charge in
+    let passing : Passing c gs = same-passing fs gs (sym (owing-as-plans (b .feeds) fs)) c (o .feeds .passing) in
+    let read : bookFeeds c 1 gs ≡ b .feeds = read-owing-as c 1 (b .feeds) fs (h .feeds .positions) (h .feeds .plans) in
+    let pieces = pieces-written c (b .clock) 1 gs (subst (Each (FeedInOrder (b .clock))) (sym read) (h .order .feeds)) in
+    let table = jobs-written c b (h .order) (h .few) (h .jobs) in
     record {
       clock = h .clock;
-      feeds = subst (FeedsIn (instant (b .clock))) (sym (in-use-of gs)) (record { passing = passing; pieces = pieces });
-      jobs = subst (JobsIn (instant (b .clock))) (sym (jobs.live-of js)) table;
+      charge = o .charge;
+      feeds = subst (FeedsIn c (instant (b .clock))) (sym (in-use-of gs)) (record { passing = passing; pieces = pieces });
+      jobs = subst (JobsIn c (instant (b .clock))) (sym (jobs.live-of js)) table;
       tidyFeeds = tidy-of gs (passing .few);
       tidyTable = jobs.tidy-of js (table .few);
     }

@@ -5,9 +5,10 @@ use Prim.Native.Nat.{ℕ, suc, _+_, _≤_}
 use lib.ListN.{length}
 use Rattle.lists.specs.Lists.{Each}
 use Rattle.ticks.specs.declared.Instant.{Instant}
+use Rattle.ticks.specs.declared.Length.{Length}
 use Rattle.ticks.specs.Ticks.{lastInstant, mostJob, instant, ticks}
 use Rattle.plans.specs.declared.Plan.{Plan}
-use Rattle.plans.specs.Plans.{leadOf}
+use Rattle.plans.specs.Plans.{leadOf, charged}
 use Rattle.feeds.specs.declared.Feed.{Feed}
 use Rattle.feeds.specs.Feeds.{owing, inUse, feedsOf}
 use Rattle.jobs.specs.declared.Job.{Job}
@@ -19,29 +20,30 @@ use Rattle.edf.specs.Order.{InOrder as BookInOrder}
 use Rattle.ledger.specs.declared.Ledger.{Ledger}
 use Rattle.ledger.specs.State.{moved}
 
-abbrev pub bookPlan : Plan → edf.Plan
-bookPlan p =
-    record { period = p .period .0; work = p .work .0; offset = p .offset .0; lead = leadOf p .0 }
+-- a plan under a charge: each piece wants its charged work
+abbrev pub bookPlan : Length → Plan → edf.Plan
+bookPlan charge p =
+    record { period = p .period .0; work = charged charge p; offset = p .offset .0; lead = leadOf p .0 }
 
 -- a feed at its position
-abbrev pub bookFeed : ℕ → Feed → edf.Feed
-bookFeed position f = record { position = position; plan = bookPlan (f .plan); owes = f .owes .0 }
+abbrev pub bookFeed : Length → ℕ → Feed → edf.Feed
+bookFeed charge position f = record { position = position; plan = bookPlan charge (f .plan); owes = f .owes .0 }
 
 -- feeds have positions in list order, here from k on
-abbrev pub bookFeeds : ℕ → List Feed → List edf.Feed
-bookFeeds k [] = []
-bookFeeds k (f ∷ fs) = bookFeed k f ∷ bookFeeds (suc k) fs
+abbrev pub bookFeeds : Length → ℕ → List Feed → List edf.Feed
+bookFeeds charge k [] = []
+bookFeeds charge k (f ∷ fs) = bookFeed charge k f ∷ bookFeeds charge (suc k) fs
 
 abbrev pub bookJob : Job → edf.Job
 bookJob j = record { number = j .number; owes = j .owed .0; due = j .deadline .0 }
 
--- the book of a clock, feeds and jobs; the first feed has position 1
-abbrev pub bookAt : Instant → List Feed → List Job → edf.Book
-bookAt clock fs js = record { clock = clock .0; feeds = bookFeeds 1 fs; jobs = map bookJob js }
+-- the book of a charge, a clock, feeds and jobs; the first feed has position 1
+abbrev pub bookAt : Length → Instant → List Feed → List Job → edf.Book
+bookAt charge clock fs js = record { clock = clock .0; feeds = bookFeeds charge 1 fs; jobs = map bookJob js }
 
 -- the state read as a book
 abbrev pub bookOf : Ledger → edf.Book
-bookOf l = bookAt (l .clock) (inUse (l .feeds)) (live (l .table))
+bookOf l = bookAt (l .charge) (l .clock) (inUse (l .feeds)) (live (l .table))
 
 abbrev pub jobOf : edf.Job → Job
 jobOf j = record { number = j .number; owed = ticks (j .owes); deadline = instant (j .due) }
@@ -68,10 +70,10 @@ whoIs (edf.job n) = who.Job n
 whoIs (edf.feed p) = who.Feed p
 whoIs edf.idle = who.Idle
 
--- a job of a book that a table can hold: numbered, and within the limits of what is owed and of the deadline
-pub record JobHeld (t : ℕ) (j : edf.Job) : Type 0 where
+-- a job of a book that a table can hold under a charge: numbered, and within the limits of what is owed and of the deadline
+pub record JobHeld (charge : Length) (t : ℕ) (j : edf.Job) : Type 0 where
   pub number : 1 ≤ j .number
-  pub owes : j .owes ≤ mostJob
+  pub owes : j .owes ≤ mostJob + charge .0
   pub near : j .due ≤ t + mostJob
   pub within : j .due ≤ lastInstant
 
@@ -86,4 +88,4 @@ pub record Held (l : Ledger) (b : edf.Book) : Type 0 where
   pub clock : b .clock ≤ lastInstant
   pub feeds : SameFeeds l b
   pub few : length (b .jobs) ≤ mostJobs
-  pub jobs : Each (JobHeld (b .clock)) (b .jobs)
+  pub jobs : Each (JobHeld (l .charge) (b .clock)) (b .jobs)

@@ -5,8 +5,12 @@ use Prim.Native.Nat.{ℕ, _+_, _-_, _*_, _/_, _%_, _≤_, _<_}
 use lib.Dec.{ltb, eqb}
 use Rattle.lists.specs.Lists.{allOf}
 use Rattle.ticks.specs.declared.Length.{Length}
-use Rattle.ticks.specs.Ticks.{mostFeed, mostRound, feedLength, ticks}
+use Rattle.ticks.specs.Ticks.{mostFeed, mostRound, mostCharge, feedLength, ticks}
 use Rattle.plans.specs.declared.Plan.{Plan}
+
+-- the most that a piece may owe: the most work and the highest charge
+abbrev pub mostPiece : ℕ
+mostPiece = mostFeed + mostCharge
 
 -- the plan of a place that no feed has
 abbrev pub noPlan : Plan
@@ -43,12 +47,17 @@ next p t = t + (p .period .0 - since p t)
 unfoldable pub due : Plan → ℕ → ℕ
 due p t = t + leadOf p .0 - since p t
 
+-- the charged work: what a piece owes when it comes
+abbrev pub charged : Length → Plan → ℕ
+charged charge p = p .work .0 + charge .0
+
 -- a plan whose part of a round of R ticks can be told
-pub record Shareable (p : Plan) (R : ℕ) : Type 0 where
+pub record Shareable (charge : Length) (p : Plan) (R : ℕ) : Type 0 where
   pub period : 1 ≤ p .period .0
   pub work : p .work .0 ≤ mostFeed
   pub round : R ≤ mostRound
+  pub low : charge .0 ≤ mostCharge
 
 -- what the pieces of a round of R ticks want together
-abbrev pub share : ℕ → Plan → ℕ
-share R p = p .work .0 * (R / p .period .0)
+abbrev pub share : Length → ℕ → Plan → ℕ
+share charge R p = charged charge p * (R / p .period .0)

@@ -7,9 +7,9 @@ use ticks::Length;
 pub mod euclid;
 
 ghost use mathlib.Core.Path.{_≡_};
-ghost use Prim.Native.Nat.{_*_, _≤_, _<_, _^_};
-ghost use Rattle.ticks.specs.Ticks.{mostFeed, instant, ticks};
-ghost use Rattle.plans.specs.Plans.{noPlan, planIn, unusedPlan, PlanIn, Shareable, leadOf, since, next, due, share};
+ghost use Prim.Native.Nat.{_+_, _*_, _≤_, _<_, _^_};
+ghost use Rattle.ticks.specs.Ticks.{mostFeed, mostCharge, instant, ticks};
+ghost use Rattle.plans.specs.Plans.{mostPiece, noPlan, planIn, unusedPlan, PlanIn, Shareable, leadOf, since, next, due, charged, share};
 
 // A piece of `work` ticks comes every `period` ticks, at the instants that leave the remainder `offset`.
 #[repr(C)]
@@ -90,11 +90,19 @@ impl Plan {
         clock.plus(self.lead().less(self.since(clock)))
     }
 
-    // What the pieces of a round want together.
-    pub fn share(self, round: Length) -> u64
-        requires { ⌜ Shareable self (round .0) ⌝ }
-        ensures { λ r. ⌜ (r ≡ share (round .0) self) × (r ≤ mostFeed * mostFeed) ⌝ }
+    // What a piece owes when it comes: its work and the charge.
+    pub fn charged(self, charge: Length) -> Length
+        requires { ⌜ (self .work .0 ≤ mostFeed) × (charge .0 ≤ mostCharge) ⌝ }
+        ensures { λ r. ⌜ r ≡ ticks (charged charge self) ⌝ }
     {
-        self.work.0 * (round.0 / self.period.0)
+        self.work.and(charge)
+    }
+
+    // What the pieces of a round want together.
+    pub fn share(self, charge: Length, round: Length) -> u64
+        requires { ⌜ Shareable charge self (round .0) ⌝ }
+        ensures { λ r. ⌜ (r ≡ share charge (round .0) self) × (r ≤ mostPiece * mostFeed) ⌝ }
+    {
+        self.charged(charge).0 * (round.0 / self.period.0)
     }
 }

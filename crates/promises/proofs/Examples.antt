@@ -155,14 +155,14 @@ pass-goes (rests position answer ∷ cs) d g e =
 
 -- THE TEST of a row
 unfoldable tested : Row → Bool
-tested r = then (r .opens) (pass (r .calls)) (openedOf (r .feeds) 0)
+tested r = then (r .opens) (pass (r .calls)) (openedOf (r .feeds) 0 (r .charge))
 
 -- THE ONE LAW: a row that passes the test holds
 tested-holds : (r : Row) → tested r ≡ true → Holds r
 unfolding tested Holds
 tested-holds r e =
-    let o = openedOf (r .feeds) 0 in
-    then-says (r .opens) (pass (r .calls)) (Goes (r .calls)) o e (pass-goes (r .calls) (o .desk) (opening-is-good (r .feeds) 0))
+    let o = openedOf (r .feeds) 0 (r .charge) in
+    then-says (r .opens) (pass (r .calls)) (Goes (r .calls)) o e (pass-goes (r .calls) (o .desk) (opening-is-good (r .feeds) 0 (r .charge)))
 
 -- THE TABLE HOLDS: every row passes, computed from the definitions alone
 pub the-table-holds : Each Holds table

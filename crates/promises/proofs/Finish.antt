@@ -145,7 +145,7 @@ pub nobody-finishes-later : NobodyFinishesLater
 unfolding NobodyFinishesLater
 nobody-finishes-later xs ys c d hc hd same l h =
     finishes-no-later c d (reached-is-good xs c hc) (reached-is-good ys d hd)
-    (less-load-is-less-alike c d (less-load-is-less c d (same-feeds-same-plans c d same) l) h)
+    (less-load-is-less-alike c d (less-load-is-less c d (same-feeds-same-plans c d same (l .charge)) l) h)
 
 pub nobody-of-one-list-finishes-later : NobodyOfOneListFinishesLater
 unfolding NobodyOfOneListFinishesLater

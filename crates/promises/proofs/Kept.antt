@@ -4,7 +4,7 @@ use mathlib.Core.Logic.{_⊎_, inl, inr}
 use mathlib.Core.List.{List, [], _∷_, _++_}
 use Prim.Native.Nat.{ℕ, _+_, _≤_}
 use native.Mathlib.Omega.{arith}
-use Rattle.ticks.specs.Ticks.{instant}
+use Rattle.ticks.specs.Ticks.{instant, ticks}
 use Rattle.feeds.specs.Lines.{feedsIn}
 use Rattle.mesh.specs.Bands.{workOf}
 use Rattle.mesh.specs.Meshes.{trianglesOf, meshLines}
@@ -15,7 +15,7 @@ use Rattle.answers.proofs.Answers.{yes-is-not-no}
 use Rattle.edf.specs.Book.{Book, job, feed}
 use Rattle.edf.specs.Runs.{Did, after, Allowed, named}
 use Rattle.edf.specs.Kept as edf
-use Rattle.edf.specs.Load.{opened}
+use Rattle.edf.specs.Load as load
 use Rattle.edf.proofs.Runs.{allowed-append, run-is-good}
 use Rattle.edf.proofs.Kept.{job-is-kept, piece-is-kept}
 use Rattle.edf.proofs.Promises as edfPromises
@@ -30,24 +30,29 @@ use Rattle.desk.specs.Asking.{requested, Asked}
 use Rattle.questions.specs.Meshes.{AskedMesh}
 use Rattle.desk.proofs.Reachable.{opened-book}
 use Rattle.desk.proofs.Good.{opening-is-good, ask-is-good, ask-book}
-use Rattle.promises.specs.Runs.{Call, Calls, Made, allows, Ends, Rests, opening, asked, askedMesh}
+use Rattle.promises.specs.Runs.{Call, Calls, Made, allows, Ends, Rests, Opening, answerTo, opened, chargeOf, asked, askedMesh}
 use Rattle.promises.specs.Kept.{EveryStateIsInOrder, EveryYesIsKept, EveryMeshYesIsKept, DoneByItsDeadline, EveryPieceIsKept, EveryOpenedPieceIsKept}
 use Rattle.promises.specs.Kept.{ServedByItsDeadline, EveryReportIsRight, EveryMeshReportIsRight, EveryPieceReportIsRight, EveryOpenedPieceReportIsRight, JobKept, Over}
 use Rattle.promises.proofs.System.{desks}
+use Rattle.promises.proofs.Charge.{calls-keep-charge}
 
 pub every-state-is-in-order : EveryStateIsInOrder
 unfolding EveryStateIsInOrder
-every-state-is-in-order xs start cs m =
-    let g = run-is-good desks cs (opening xs start) (opening-is-good xs start) m in
+every-state-is-in-order o cs m =
+    let g = run-is-good desks cs (opened o) (opening-is-good (o .feeds) (o .start) (o .charge)) m in
     (g .order, g .sound)
 
 -- what an ask that was made and answered yes leaves: a good desk with the job live
 module _ (d : Desk) (g : Good d) (number work lead : ℕ) (r : Answer) (a : Asked d number work lead r) (y : r .verdict ≡ Yes) where
-  asked-live : edf.Live number (d .ledger .clock .0 + lead) work (book (r .desk))
-  asked-live = subst (edf.Live number (d .ledger .clock .0 + lead) work) (sym (ask-book d g number work lead r a y)) (edfPromises.taken-is-live (book d) (bookJob (requested d number work lead)))
+  -- its charged work
+  abbrev owed : ℕ
+  owed = work + d .ledger .charge .0
 
-  asked-kept : (later : Calls) → Made later (r .desk) → JobKept number (d .ledger .clock .0 + lead) work later (r .desk)
-  asked-kept later m = job-is-kept desks later (r .desk) number (d .ledger .clock .0 + lead) work (ask-is-good d g number work lead r a) m asked-live
+  asked-live : edf.Live number (d .ledger .clock .0 + lead) owed (book (r .desk))
+  asked-live = subst (edf.Live number (d .ledger .clock .0 + lead) owed) (sym (ask-book d g number work lead r a y)) (edfPromises.taken-is-live (book d) (bookJob (requested d number work lead)))
+
+  asked-kept : (later : Calls) → Made later (r .desk) → JobKept number (d .ledger .clock .0 + lead) owed later (r .desk)
+  asked-kept later m = job-is-kept desks later (r .desk) number (d .ledger .clock .0 + lead) owed (ask-is-good d g number work lead r a) m asked-live
 
 -- calls put together again
 made-of : (before : Calls) (x : Did Call Desk) (later : Calls) (d : Desk) → Made before d → allows (x .call) (after before d) (x .came) → Made later (x .came .state) → Made (before ++ (x ∷ later)) d
@@ -70,25 +75,35 @@ mesh-yes-is-asked d s size number lead r a y = go (firstOf (disorder d ∷ meshL
     go (No x) e = absurd (yes-is-not-no x (sym y ∙ ap (λ k. k .verdict) (a .stopped x e)))
 
 -- calls before an ask, the ask, and the calls after it
-module _ (xs : List ℕ) (start : ℕ) (before : Calls) (x : Did Call Desk) (later : Calls) (m : Made (before ++ (x ∷ later)) (opening xs start)) where
-  parts : Made before (opening xs start) × Made (x ∷ later) (after before (opening xs start))
-  parts = allowed-append allows before (x ∷ later) (opening xs start) m
+module _ (o : Opening) (before : Calls) (x : Did Call Desk) (later : Calls) (m : Made (before ++ (x ∷ later)) (opened o)) where
+  parts : Made before (opened o) × Made (x ∷ later) (after before (opened o))
+  parts = allowed-append allows before (x ∷ later) (opened o) m
 
-  good-before : Good (after before (opening xs start))
-  good-before = run-is-good desks before (opening xs start) (opening-is-good xs start) (parts .0)
+  good-before : Good (after before (opened o))
+  good-before = run-is-good desks before (opened o) (opening-is-good (o .feeds) (o .start) (o .charge)) (parts .0)
+
+  charge-before : after before (opened o) .ledger .charge .0 ≡ chargeOf o
+  charge-before = ap (λ l. l .0) (calls-keep-charge before (opened o) (parts .0))
 
 pub every-yes-is-kept : EveryYesIsKept
 unfolding EveryYesIsKept Allowed allows
-every-yes-is-kept xs start before number work lead r later m y =
-    let p = parts xs start before (asked number work lead r) later m in
-    asked-kept (after before (opening xs start)) (good-before xs start before (asked number work lead r) later m) number work lead r (p .1 .0 .0) y later (p .1 .1)
+every-yes-is-kept o before number work lead r later m y =
+    let p = parts o before (asked number work lead r) later m in
+    let d = after before (opened o) in
+    let x = asked number work lead r in
+    subst (λ c. JobKept number (d .ledger .clock .0 + lead) (work + c) later (r .desk)) (charge-before o before x later m)
+    (asked-kept d (good-before o before x later m) number work lead r (p .1 .0 .0) y later (p .1 .1))
 
 pub every-mesh-yes-is-kept : EveryMeshYesIsKept
 unfolding EveryMeshYesIsKept Allowed allows
-every-mesh-yes-is-kept xs start before s size number lead r later m y =
-    let p = parts xs start before (askedMesh s size number lead r) later m in
-    let a = mesh-yes-is-asked (after before (opening xs start)) s size number lead r (p .1 .0 .0) y in
-    asked-kept (after before (opening xs start)) (good-before xs start before (askedMesh s size number lead r) later m) number (workOf (trianglesOf s)) lead r a y later (p .1 .1)
+every-mesh-yes-is-kept o before s size number lead r later m y =
+    let p = parts o before (askedMesh s size number lead r) later m in
+    let d = after before (opened o) in
+    let x = askedMesh s size number lead r in
+    let work = workOf (trianglesOf s) in
+    let a = mesh-yes-is-asked d s size number lead r (p .1 .0 .0) y in
+    subst (λ c. JobKept number (d .ledger .clock .0 + lead) (work + c) later (r .desk)) (charge-before o before x later m)
+    (asked-kept d (good-before o before x later m) number work lead r a y later (p .1 .1))
 
 pub done-by-its-deadline : DoneByItsDeadline
 unfolding DoneByItsDeadline
@@ -96,44 +111,56 @@ done-by-its-deadline n due work cs d (inl k) h = absurd (omega (arith, k .ahead)
 done-by-its-deadline n due work cs d (inr k) h = k
 
 -- an opening that is not refused, read as a book
-opening-book : (xs : List ℕ) (start : ℕ) → openedOf xs start .verdict ≡ Yes → book (opening xs start) ≡ opened start (bookFeeds 1 (feedsIn xs))
+opening-book : (o : Opening) → answerTo o .verdict ≡ Yes → book (opened o) ≡ load.opened (o .start) (bookFeeds (ticks (o .charge)) 1 (feedsIn (o .feeds)))
 unfolding openedOf
-opening-book xs start y = ap (λ v. book (onYes v (openedDesk (feedsIn xs) (instant start)) empty)) y ∙ opened-book (feedsIn xs) (instant start)
+opening-book o y = ap (λ v. book (onYes v (openedDesk (feedsIn (o .feeds)) (ticks (o .charge)) (instant (o .start))) empty)) y
+    ∙ opened-book (feedsIn (o .feeds)) (ticks (o .charge)) (instant (o .start))
 
 pub every-piece-is-kept : EveryPieceIsKept
 unfolding EveryPieceIsKept
-every-piece-is-kept xs start y f lent before x later m t z =
-    let has = subst (Has f) (sym (opening-book xs start y)) (edfPromises.opening-has start (bookFeeds 1 (feedsIn xs)) f lent) in
-    edfPromises.a-released-piece-is-kept desks (opening xs start) (opening-is-good xs start) before x later f has m t z
+every-piece-is-kept o y f lent before x later m t z =
+    let has = subst (Has f) (sym (opening-book o y)) (edfPromises.opening-has (o .start) (bookFeeds (ticks (o .charge)) 1 (feedsIn (o .feeds))) f lent) in
+    edfPromises.a-released-piece-is-kept desks (opened o) (opening-is-good (o .feeds) (o .start) (o .charge)) before x later f has m t z
 
 pub every-opened-piece-is-kept : EveryOpenedPieceIsKept
 unfolding EveryOpenedPieceIsKept
-every-opened-piece-is-kept xs start y f lent z later m =
-    edfPromises.an-opened-piece-is-kept desks (opening xs start) (opening-is-good xs start) start (bookFeeds 1 (feedsIn xs)) f lent (opening-book xs start y) z later m
+every-opened-piece-is-kept o y f lent z later m =
+    edfPromises.an-opened-piece-is-kept desks (opened o) (opening-is-good (o .feeds) (o .start) (o .charge)) (o .start) (bookFeeds (ticks (o .charge)) 1 (feedsIn (o .feeds))) f lent (opening-book o y) z later m
 
 -- what an answer tells of a job that was asked for and taken, or it was over before
 asked-reported : (d : Desk) → Good d → (number work lead : ℕ) (r : Answer) → Asked d number work lead r → r .verdict ≡ Yes
     → (since-then : Calls) (x : Did Call Desk) (later : Calls) → Made (since-then ++ (x ∷ later)) (r .desk)
     → x .came .who ≡ job number → 1 ≤ x .came .ticks
-    → (x .came .owes + named (job number) (since-then ++ (x ∷ [])) ≡ work) ⊎ Over number (d .ledger .clock .0 + lead) work since-then (r .desk)
+    → (x .came .owes + named (job number) (since-then ++ (x ∷ [])) ≡ work + d .ledger .charge .0) ⊎ Over number (d .ledger .clock .0 + lead) (work + d .ledger .charge .0) since-then (r .desk)
 asked-reported d g number work lead r a y since-then x later m w h =
-    let right = edfPromises.a-job's-report-is-right desks (r .desk) (ask-is-good d g number work lead r a) since-then x later m number (d .ledger .clock .0 + lead) work in
+    let right = edfPromises.a-job's-report-is-right desks (r .desk) (ask-is-good d g number work lead r a) since-then x later m number (d .ledger .clock .0 + lead) (work + d .ledger .charge .0) in
     report (asked-kept d g number work lead r a y since-then (allowed-append allows since-then (x ∷ later) (r .desk) m .0)) (λ k. right k w h)
+
+-- what is told of a job by the step x, or that it was over before
+abbrev Told : ℕ → ℕ → Calls → Did Call Desk → Desk → ℕ → Type 0
+Told number due since-then x d work =
+    (x .came .owes + named (job number) (since-then ++ (x ∷ [])) ≡ work) ⊎ Over number due work since-then d
 
 pub every-report-is-right : EveryReportIsRight
 unfolding EveryReportIsRight Allowed allows
-every-report-is-right xs start before number work lead r since-then x later m y w h =
-    let p = parts xs start before (asked number work lead r) (since-then ++ (x ∷ later)) m in
-    let g = good-before xs start before (asked number work lead r) (since-then ++ (x ∷ later)) m in
-    asked-reported (after before (opening xs start)) g number work lead r (p .1 .0 .0) y since-then x later (p .1 .1) w h
+every-report-is-right o before number work lead r since-then x later m y w h =
+    let d = after before (opened o) in
+    let a = asked number work lead r in
+    let p = parts o before a (since-then ++ (x ∷ later)) m in
+    let g = good-before o before a (since-then ++ (x ∷ later)) m in
+    subst (λ c. Told number (d .ledger .clock .0 + lead) since-then x (r .desk) (work + c)) (charge-before o before a (since-then ++ (x ∷ later)) m)
+    (asked-reported d g number work lead r (p .1 .0 .0) y since-then x later (p .1 .1) w h)
 
 pub every-mesh-report-is-right : EveryMeshReportIsRight
 unfolding EveryMeshReportIsRight Allowed allows
-every-mesh-report-is-right xs start before s size number lead r since-then x later m y w h =
-    let d = after before (opening xs start) in
-    let p = parts xs start before (askedMesh s size number lead r) (since-then ++ (x ∷ later)) m in
-    let g = good-before xs start before (askedMesh s size number lead r) (since-then ++ (x ∷ later)) m in
-    asked-reported d g number (workOf (trianglesOf s)) lead r (mesh-yes-is-asked d s size number lead r (p .1 .0 .0) y) y since-then x later (p .1 .1) w h
+every-mesh-report-is-right o before s size number lead r since-then x later m y w h =
+    let d = after before (opened o) in
+    let a = askedMesh s size number lead r in
+    let p = parts o before a (since-then ++ (x ∷ later)) m in
+    let g = good-before o before a (since-then ++ (x ∷ later)) m in
+    let work = workOf (trianglesOf s) in
+    subst (λ c. Told number (d .ledger .clock .0 + lead) since-then x (r .desk) (work + c)) (charge-before o before a (since-then ++ (x ∷ later)) m)
+    (asked-reported d g number work lead r (mesh-yes-is-asked d s size number lead r (p .1 .0 .0) y) y since-then x later (p .1 .1) w h)
 
 pub served-by-its-deadline : ServedByItsDeadline
 unfolding ServedByItsDeadline
@@ -142,20 +169,20 @@ served-by-its-deadline p due work cs d (inr k) h = k
 
 pub every-piece-report-is-right : EveryPieceReportIsRight
 unfolding EveryPieceReportIsRight EveryPieceIsKept Allowed
-every-piece-report-is-right xs start y f lent before released since-then x later m t z w h =
-    let p = parts xs start before released (since-then ++ (x ∷ later)) m in
-    let g = good-before xs start before released (since-then ++ (x ∷ later)) m in
-    let good = desks .follows released (after before (opening xs start)) g (p .1 .0) .0 in
+every-piece-report-is-right o y f lent before released since-then x later m t z w h =
+    let p = parts o before released (since-then ++ (x ∷ later)) m in
+    let g = good-before o before released (since-then ++ (x ∷ later)) m in
+    let good = desks .follows released (after before (opened o)) g (p .1 .0) .0 in
     let q = allowed-append allows since-then (x ∷ later) (released .came .state) (p .1 .1) in
     let n = f .position in
     let due = released .came .state .ledger .clock .0 + f .plan .lead in
     let right = edfPromises.a-piece's-report-is-right desks (released .came .state) good since-then x later (p .1 .1) n due (f .plan .work) in
-    let kept = every-piece-is-kept xs start y f lent before released since-then (made-of before released since-then (opening xs start) (p .0) (p .1 .0) (q .0)) t z in
+    let kept = every-piece-is-kept o y f lent before released since-then (made-of before released since-then (opened o) (p .0) (p .1 .0) (q .0)) t z in
     report kept (λ k. right k w h)
 
 pub every-opened-piece-report-is-right : EveryOpenedPieceReportIsRight
 unfolding EveryOpenedPieceReportIsRight EveryOpenedPieceIsKept
-every-opened-piece-report-is-right xs start y f lent z since-then x later m w h =
-    let d = opening xs start in
-    let right = edfPromises.a-piece's-report-is-right desks d (opening-is-good xs start) since-then x later m (f .position) (start + f .plan .lead) (f .plan .work) in
-    report (every-opened-piece-is-kept xs start y f lent z since-then (allowed-append allows since-then (x ∷ later) d m .0)) (λ k. right k w h)
+every-opened-piece-report-is-right o y f lent z since-then x later m w h =
+    let d = opened o in
+    let right = edfPromises.a-piece's-report-is-right desks d (opening-is-good (o .feeds) (o .start) (o .charge)) since-then x later m (f .position) (o .start + f .plan .lead) (f .plan .work) in
+    report (every-opened-piece-is-kept o y f lent z since-then (allowed-append allows since-then (x ∷ later) d m .0)) (λ k. right k w h)

@@ -9,6 +9,7 @@ use lib.ListN.{length, length-map}
 use borrow.Author.Tests.{not-false, leb-false, lt-leb}
 use Rattle.lists.specs.Lists.{eq, total, Some, Pairs}
 use Rattle.lists.proofs.Lists.{each-imp, each-map, some-imp, some-map, total-map}
+use Rattle.ticks.specs.declared.Length.{Length}
 use Rattle.ticks.specs.Ticks.{ticks, instant}
 use Rattle.mesh.specs.Bands.{workOf}
 use Rattle.mesh.specs.Meshes.{trianglesOf, meshLines}
@@ -41,51 +42,61 @@ use Rattle.desk.proofs.Asking.{admissible, said-yes}
 use Rattle.desk.proofs.Reachable.{good-order, opened-book}
 use Rattle.desk.proofs.Good.{opening-is-good}
 use Rattle.questions.specs.Meshes.{AskedMesh}
-use Rattle.promises.specs.Runs.{opening}
+use Rattle.promises.specs.Runs.{Opening, opened}
 use Rattle.promises.specs.Load.{Reached, JobNoMore, OwesNoMore, LessLoad, SameFeeds, GrantsToo, TheLighterSaysYes, TheLighterOfOneListSaysYes}
 use Rattle.promises.proofs.System.{desks, judged-fits}
+use Rattle.promises.proofs.Charge.{calls-keep-charge}
 
 -- a desk that calls reach is good
 pub reached-is-good : (xs : List ℕ) (d : Desk) → Reached xs d → Good d
 reached-is-good xs d h =
-    subst Good (h .there) (run-is-good desks (h .calls) (opening xs (h .start)) (opening-is-good xs (h .start)) (h .made))
+    let o = h .from in
+    subst Good (h .there) (run-is-good desks (h .calls) (opened o) (opening-is-good (o .feeds) (o .start) (o .charge)) (h .made))
 
 abbrev bookPlans : Desk → List edf.Plan
 bookPlans d = edf.plans (book d .feeds)
 
-plans-read : (k : ℕ) (fs : List Feed) → edf.plans (bookFeeds k fs) ≡ map bookPlan (plansOf fs)
-plans-read k [] = refl
-plans-read k (f ∷ fs) = ap (λ ps. bookPlan (f .plan) ∷ ps) (plans-read (suc k) fs)
+plans-read : (a : Length) (k : ℕ) (fs : List Feed) → edf.plans (bookFeeds a k fs) ≡ map (bookPlan a) (plansOf fs)
+plans-read a k [] = refl
+plans-read a k (f ∷ fs) = ap (λ ps. bookPlan a (f .plan) ∷ ps) (plans-read a (suc k) fs)
 
-pub same-feeds-same-plans : (c d : Desk) → SameFeeds c d → bookPlans c ≡ bookPlans d
+pub same-feeds-same-plans : (c d : Desk) → SameFeeds c d → c .ledger .charge ≡ d .ledger .charge → bookPlans c ≡ bookPlans d
 unfolding SameFeeds
-same-feeds-same-plans c d e = plans-read 1 (inUse (c .ledger .feeds)) ∙ ap (map bookPlan) e ∙ sym (plans-read 1 (inUse (d .ledger .feeds)))
+same-feeds-same-plans c d e q =
+    plans-read (c .ledger .charge) 1 (inUse (c .ledger .feeds))
+    ∙ (λ i. map (bookPlan (q i)) (e i))
+    ∙ sym (plans-read (d .ledger .charge) 1 (inUse (d .ledger .feeds)))
 
--- what an opening lays out: the plans of its list, or none where it is refused
+-- what an opening lays out: the plans of its list under the desk's charge, or none where it is refused
 abbrev Laid : List ℕ → Desk → Type 0
-Laid xs d = (bookPlans d ≡ edf.plans (bookFeeds 1 (feedsIn xs))) ⊎ (bookPlans d ≡ [])
+Laid xs d = (bookPlans d ≡ edf.plans (bookFeeds (d .ledger .charge) 1 (feedsIn xs))) ⊎ (bookPlans d ≡ [])
 
-opening-plans : (xs : List ℕ) (start : ℕ) → Laid xs (opening xs start)
+opening-plans : (o : Opening) → Laid (o .feeds) (opened o)
 unfolding openedOf
-opening-plans xs start = go (firstOf (openLines xs start))
+opening-plans o = go (firstOf (openLines (o .feeds) (o .start) (o .charge)))
   where
-    go : (v : Verdict) → Laid xs (onYes v (openedDesk (feedsIn xs) (instant start)) empty)
-    go Yes = inl (ap (λ b. edf.plans (b .feeds)) (opened-book (feedsIn xs) (instant start)) ∙ opened-keeps-plans start (bookFeeds 1 (feedsIn xs)))
+    fs : List Feed
+    fs = feedsIn (o .feeds)
+
+    go : (v : Verdict) → Laid (o .feeds) (onYes v (openedDesk fs (ticks (o .charge)) (instant (o .start))) empty)
+    go Yes = inl (ap (λ b. edf.plans (b .feeds)) (opened-book fs (ticks (o .charge)) (instant (o .start))) ∙ opened-keeps-plans (o .start) (bookFeeds (ticks (o .charge)) 1 fs))
     go (No x) = inr refl
 
 -- and calls keep them
 reached-plans : (xs : List ℕ) (d : Desk) → Reached xs d → Laid xs d
 reached-plans xs d h =
-    let s = opening xs (h .start) in
-    let kept = sym (ap bookPlans (h .there)) ∙ run-keeps-plans desks (h .calls) s (opening-is-good xs (h .start)) (h .made) in
-    ⊎-elim (λ e. inl (kept ∙ e)) (λ e. inr (kept ∙ e)) (opening-plans xs (h .start))
+    let o = h .from in
+    let plans = sym (ap bookPlans (h .there)) ∙ run-keeps-plans desks (h .calls) (opened o) (opening-is-good (o .feeds) (o .start) (o .charge)) (h .made) in
+    let charge = sym (calls-keep-charge (h .calls) (opened o) (h .made)) ∙ ap (λ e. e .ledger .charge) (h .there) in
+    ⊎-elim (λ e. inl (plans ∙ e ∙ (λ i. edf.plans (bookFeeds (charge i) 1 (feedsIn (h .list i)))))) (λ e. inr (plans ∙ e)) (opening-plans o)
 
 -- feeds that pair up are as many
-pairs-many : (R : Feed → Feed → Type 0) (k : ℕ) (fs gs : List Feed) → Pairs R fs gs → length (edf.plans (bookFeeds k fs)) ≡ length (edf.plans (bookFeeds k gs))
-pairs-many R k [] [] ps = refl
-pairs-many R k [] (g ∷ gs) ps = absurd ps
-pairs-many R k (f ∷ fs) [] ps = absurd ps
-pairs-many R k (f ∷ fs) (g ∷ gs) ps = ap suc (pairs-many R (suc k) fs gs (ps .1))
+pairs-many : (R : Feed → Feed → Type 0) (a b : Length) (k : ℕ) (fs gs : List Feed) → Pairs R fs gs
+    → length (edf.plans (bookFeeds a k fs)) ≡ length (edf.plans (bookFeeds b k gs))
+pairs-many R a b k [] [] ps = refl
+pairs-many R a b k [] (g ∷ gs) ps = absurd ps
+pairs-many R a b k (f ∷ fs) [] ps = absurd ps
+pairs-many R a b k (f ∷ fs) (g ∷ gs) ps = ap suc (pairs-many R a b (suc k) fs gs (ps .1))
 
 none-of-none : (ps : List edf.Plan) → length ps ≡ 0 → ps ≡ []
 none-of-none [] e = refl
@@ -96,28 +107,28 @@ pub one-list-same-plans : (xs : List ℕ) (c d : Desk) → Reached xs c → Reac
 one-list-same-plans xs c d hc hd l = go (reached-plans xs c hc) (reached-plans xs d hd)
   where
     many : length (bookPlans c) ≡ length (bookPlans d)
-    many = pairs-many OwesNoMore 1 (inUse (c .ledger .feeds)) (inUse (d .ledger .feeds)) (l .pieces)
+    many = pairs-many OwesNoMore (c .ledger .charge) (d .ledger .charge) 1 (inUse (c .ledger .feeds)) (inUse (d .ledger .feeds)) (l .pieces)
 
     go : Laid xs c → Laid xs d → bookPlans c ≡ bookPlans d
-    go (inl e) (inl f) = e ∙ sym f
+    go (inl e) (inl f) = e ∙ ap (λ a. edf.plans (bookFeeds a 1 (feedsIn xs))) (l .charge) ∙ sym f
     go (inl e) (inr f) = none-of-none (bookPlans c) (many ∙ ap length f) ∙ sym f
     go (inr e) (inl f) = e ∙ sym (none-of-none (bookPlans d) (sym many ∙ ap length e))
     go (inr e) (inr f) = e ∙ sym f
 
-feeds-less : (k : ℕ) (fs gs : List Feed) → edf.plans (bookFeeds k fs) ≡ edf.plans (bookFeeds k gs) → Pairs OwesNoMore fs gs
-    → Pairs FeedLess (bookFeeds k fs) (bookFeeds k gs)
-feeds-less k [] [] e ps = tt
-feeds-less k [] (g ∷ gs) e ps = ps
-feeds-less k (f ∷ fs) [] e ps = ps
-feeds-less k (f ∷ fs) (g ∷ gs) e ps =
-    (record { position = refl; plan = cc; owes = ps .0 }, feeds-less (suc k) fs gs (cc) (ps .1))
+feeds-less : (a b : Length) (k : ℕ) (fs gs : List Feed) → edf.plans (bookFeeds a k fs) ≡ edf.plans (bookFeeds b k gs) → Pairs OwesNoMore fs gs
+    → Pairs FeedLess (bookFeeds a k fs) (bookFeeds b k gs)
+feeds-less a b k [] [] e ps = tt
+feeds-less a b k [] (g ∷ gs) e ps = ps
+feeds-less a b k (f ∷ fs) [] e ps = ps
+feeds-less a b k (f ∷ fs) (g ∷ gs) e ps =
+    (record { position = refl; plan = cc; owes = ps .0 }, feeds-less a b (suc k) fs gs (cc) (ps .1))
 
 -- LESS LOAD, READ AS BOOKS
 pub less-load-is-less : (c d : Desk) → bookPlans c ≡ bookPlans d → LessLoad c d → Less (book c) (book d)
 less-load-is-less c d e l =
     record {
       clock = ap (λ t. t .0) (l .clock);
-      feeds = feeds-less 1 (inUse (c .ledger .feeds)) (inUse (d .ledger .feeds)) e (l .pieces);
+      feeds = feeds-less (c .ledger .charge) (d .ledger .charge) 1 (inUse (c .ledger .feeds)) (inUse (d .ledger .feeds)) e (l .pieces);
       jobs = each-map (λ j. Some (JobLess j) (book d .jobs)) bookJob (live (c .ledger .table))
           (each-imp (λ j. Some (JobNoMore j) (live (d .ledger .table))) (λ j. Some (JobLess (bookJob j)) (book d .jobs)) found (live (c .ledger .table)) (l .jobs));
     }
@@ -137,20 +148,21 @@ unfolding Judged
 judged-yes d j r (inl k) f = ap (λ a. a .verdict) (k .1)
 judged-yes d j r (inr k) f = absurd (k .0 f)
 
-module _ (c d : Desk) (gc : Good c) (gd : Good d) (clock : c .ledger .clock ≡ d .ledger .clock) (less : Less (book c) (book d)) where
+module _ (c d : Desk) (gc : Good c) (gd : Good d) (clock : c .ledger .clock ≡ d .ledger .clock)
+    (charge : c .ledger .charge ≡ d .ledger .charge) (less : Less (book c) (book d)) where
   -- a number that is free on the heavier is free on the lighter
   lighter-lacks : (n : ℕ) → lacks n (live (d .ledger .table)) ≡ true → lacks n (live (c .ledger .table)) ≡ true
   lighter-lacks n h =
       times-lacks n (live (c .ledger .table))
       (sym (live-numbers c n) ∙ less-keeps-free (book c) (book d) less n (live-numbers d n ∙ lacks-times n (live (d .ledger .table)) h))
 
-  lighter-fits : (number work lead : ℕ) → 1 ≤ work → 1 ≤ lead → lacks number (live (d .ledger .table)) ≡ true
+  lighter-fits : (number work lead : ℕ) → 1 ≤ work + d .ledger .charge .0 → 1 ≤ lead → lacks number (live (d .ledger .table)) ≡ true
       → Fits (with-job d (requested d number work lead)) → Fits (with-job c (requested c number work lead))
   lighter-fits number work lead w far h f =
       let q = bookJob (requested d number work lead) in
       let askable : Askable (book d) q
       = record { sound = record { owes = w; ahead = omega arith }; free = live-numbers d number ∙ lacks-times number (live (d .ledger .table)) h } in
-      subst (λ j. Fits (taking j (book c))) (λ i. record { number = number; owes = work; due = sym clock i .0 + lead })
+      subst (λ j. Fits (taking j (book c))) (λ i. record { number = number; owes = work + sym charge i .0; due = sym clock i .0 + lead })
       (less-says-yes (book c) (book d) q (gc .sound .order) (gd .sound .order) (gd .sound .light) less askable f .1)
 
   -- no line that passes on the heavier stops on the lighter
@@ -195,14 +207,14 @@ module _ (c d : Desk) (gc : Good c) (gd : Good d) (clock : c .ledger .clock ≡ 
       go (No x) e = absurd (yes-is-not-no x (sym y ∙ ap (λ k. k .verdict) (a .stopped x e)))
 
   lighter-grants : GrantsToo c d
-  lighter-grants = record { fits = lighter-fits; ask = lighter-asks; mesh = lighter-meshes }
+  lighter-grants = record { fits = λ number work lead w. lighter-fits number work lead (omega arith); ask = lighter-asks; mesh = lighter-meshes }
 
 pub the-lighter-says-yes : TheLighterSaysYes
 unfolding TheLighterSaysYes
 the-lighter-says-yes xs ys c d hc hd same l =
-    lighter-grants c d (reached-is-good xs c hc) (reached-is-good ys d hd) (l .clock) (less-load-is-less c d (same-feeds-same-plans c d same) l)
+    lighter-grants c d (reached-is-good xs c hc) (reached-is-good ys d hd) (l .clock) (l .charge) (less-load-is-less c d (same-feeds-same-plans c d same (l .charge)) l)
 
 pub the-lighter-of-one-list-says-yes : TheLighterOfOneListSaysYes
 unfolding TheLighterOfOneListSaysYes
 the-lighter-of-one-list-says-yes xs c d hc hd l =
-    lighter-grants c d (reached-is-good xs c hc) (reached-is-good xs d hd) (l .clock) (less-load-is-less c d (one-list-same-plans xs c d hc hd l) l)
+    lighter-grants c d (reached-is-good xs c hc) (reached-is-good xs d hd) (l .clock) (l .charge) (less-load-is-less c d (one-list-same-plans xs c d hc hd l) l)

@@ -104,7 +104,7 @@ the-refusal-listed =
     record {
       first = λ ls x. (first-holds ls x, first-is ls x);
       passed = λ ls. (none-holds ls, all-pass ls);
-      opening = λ xs start. refl;
+      opening = λ xs start charge. refl;
       ask = ask-listed;
       mesh = mesh-listed;
       step = λ d. refl;
@@ -138,7 +138,7 @@ pub refused-hands-back : RefusedHandsBack
 unfolding openedOf stepOf endOf restOf countedOf listedOf
 refused-hands-back =
     record {
-      opening = λ xs start x n. refused (openedOf xs start .verdict) x (openedDesk (feedsIn xs) (instant start)) empty n;
+      opening = λ xs start charge x n. refused (openedOf xs start charge .verdict) x (openedDesk (feedsIn xs) (ticks charge) (instant start)) empty n;
       ask = λ d number work lead r x a. ask-refused d number work lead r a x;
       mesh = mesh-refused;
       step = step-refused;

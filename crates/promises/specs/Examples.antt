@@ -1,5 +1,6 @@
--- The starred bench examples of the rules as one table, row by row and in their order: a row is an opening at instant 0 with
--- what it answers, and calls from there on, each with what it answers. 0 is yes, any other number the refusal.
+-- The starred bench examples of the rules as one table, row by row and in their order, and behind them rows where the charge
+-- decides: a row is an opening at instant 0 with what it answers, and calls from there on, each with what it answers. 0 is yes,
+-- any other number the refusal.
 use mathlib.Core.Path.{_≡_}
 use mathlib.Core.List.{List, [], _∷_}
 use Prim.Native.Nat.{ℕ}
@@ -15,14 +16,20 @@ pub data Said : Type 0 where
   asks : ℕ → ℕ → ℕ → ℕ → Said
   rests : ℕ → ℕ → Said
 
+-- a row: the feed list, three numbers a feed (period, work, offset), the charge, what the opening answers, and the calls
 pub record Row : Type 0 where
-  -- three numbers a feed: period, work, offset
   pub feeds : List ℕ
+  pub charge : ℕ
   pub opens : ℕ
   pub calls : List Said
 
+-- where changing work costs nothing, as in the rules
 abbrev pub row : List ℕ → ℕ → List Said → Row
-row feeds opens calls = record { feeds = feeds; opens = opens; calls = calls }
+row feeds opens calls = record { feeds = feeds; charge = 0; opens = opens; calls = calls }
+
+-- where each job and each piece owes a charge too
+abbrev pub charged : ℕ → List ℕ → ℕ → List Said → Row
+charged charge feeds opens calls = record { feeds = feeds; charge = charge; opens = opens; calls = calls }
 
 -- the answer is this number, and so it goes on from the state that is handed back
 abbrev pub Then : ℕ → (Desk → Type 0) → Answer → Type 0
@@ -36,7 +43,7 @@ Goes (rests position answer ∷ cs) d = Then answer (Goes cs) (restOf d position
 
 -- THE ONE STATEMENT
 unfoldable pub Holds : Row → Type 0
-Holds r = Then (r .opens) (Goes (r .calls)) (openedOf (r .feeds) 0)
+Holds r = Then (r .opens) (Goes (r .calls)) (openedOf (r .feeds) 0 (r .charge))
 
 -- X of the bench examples
 abbrev pub x : List ℕ
@@ -72,4 +79,26 @@ table =
     ∷ row (40319 ∷ 1 ∷ 0 ∷ 2 ∷ 1 ∷ 0 ∷ []) 9 []
     -- a half and two thirds are more than there is
     ∷ row (2 ∷ 1 ∷ 0 ∷ 3 ∷ 2 ∷ 0 ∷ []) 10 []
+    -- no feeds: a job of 4 by 4 fits, and under a charge of 1 it owes 5
+    ∷ row [] 0 (asks 1 4 4 0 ∷ [])
+    ∷ charged 1 [] 0 (asks 1 4 4 6 ∷ asks 1 4 5 0 ∷ [])
+    -- each layer to come owes the charge too: by 8 the feed owes 4
+    ∷ charged 1 (4 ∷ 1 ∷ 0 ∷ []) 0 (asks 1 4 8 6 ∷ asks 1 3 8 0 ∷ [])
+    -- so does a job that was taken before
+    ∷ charged 1 [] 0 (asks 1 3 8 0 ∷ asks 2 4 8 6 ∷ asks 2 3 8 0 ∷ [])
+    -- X under a charge of 1 wants every tick, and what a rested layer leaves is 2 of them
+    ∷ charged 1 x 0 (asks 1 1 65536 6 ∷ rests 1 0 ∷ asks 1 2 6 6 ∷ asks 1 1 6 0 ∷ [])
+    -- a layer that is rested leaves its tick and its charge
+    ∷ charged 1 (4 ∷ 3 ∷ 0 ∷ []) 0 (asks 1 3 4 6 ∷ rests 1 0 ∷ asks 1 3 4 0 ∷ [])
+    -- a feed that leaves a tick in four can pay a charge of 1 and not of 2; X under a charge of 2 wants 17 of 12
+    ∷ row (4 ∷ 3 ∷ 0 ∷ []) 0 []
+    ∷ charged 1 (4 ∷ 3 ∷ 0 ∷ []) 0 []
+    ∷ charged 2 (4 ∷ 3 ∷ 0 ∷ []) 10 []
+    ∷ charged 2 x 10 []
+    -- 16 is the highest charge, and 18 comes before the lines of the feeds
+    ∷ charged 16 [] 0 []
+    ∷ charged 17 [] 18 []
+    ∷ charged 17 (0 ∷ 0 ∷ 0 ∷ []) 18 []
+    ∷ charged 16 (0 ∷ 0 ∷ 0 ∷ []) 2 []
+    ∷ charged 17 (4 ∷ 1 ∷ 0 ∷ 6 ∷ []) 12 []
     ∷ []

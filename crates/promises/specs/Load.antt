@@ -15,14 +15,15 @@ use Rattle.desk.specs.declared.Desk.{Desk}
 use Rattle.desk.specs.declared.Answer.{Answer}
 use Rattle.desk.specs.Asking.{requested, with-job, Asked}
 use Rattle.questions.specs.Meshes.{AskedMesh}
-use Rattle.promises.specs.Runs.{Calls, Made, opening}
+use Rattle.promises.specs.Runs.{Calls, Made, Opening, opened}
 
--- a desk that some calls reach from an opening with this feed list
+-- a desk that some calls reach from an opening with this feed list, at whatever instant and under whatever charge
 pub record Reached (xs : List ℕ) (d : Desk) : Type 0 where
-  pub start : ℕ
+  pub from : Opening
+  pub list : from .feeds ≡ xs
   pub calls : Calls
-  pub made : Made calls (opening xs start)
-  pub there : after calls (opening xs start) ≡ d
+  pub made : Made calls (opened from)
+  pub there : after calls (opened from) ≡ d
 
 -- the same job by number, owing no more and due no sooner
 pub record JobNoMore (j k : Job) : Type 0 where
@@ -34,14 +35,15 @@ pub record JobNoMore (j k : Job) : Type 0 where
 abbrev pub OwesNoMore : Feed → Feed → Type 0
 OwesNoMore f g = f .owes .0 ≤ g .owes .0
 
--- less load: the first desk is at the second's instant, feed by feed its current piece owes no more, and each of its jobs is
--- one of the second's
+-- less load: the first desk is at the second's instant and under its charge, feed by feed its current piece owes no more, and
+-- each of its jobs is one of the second's
 pub record LessLoad (c d : Desk) : Type 0 where
   pub clock : c .ledger .clock ≡ d .ledger .clock
+  pub charge : c .ledger .charge ≡ d .ledger .charge
   pub pieces : Pairs OwesNoMore (inUse (c .ledger .feeds)) (inUse (d .ledger .feeds))
   pub jobs : Each (λ j. Some (JobNoMore j) (live (d .ledger .table))) (live (c .ledger .table))
 
--- the same feeds: position by position the same period, work and offset
+-- the same feeds, as they were lent: position by position the same period, work and offset
 unfoldable pub SameFeeds : Desk → Desk → Type 0
 SameFeeds c d = plansOf (inUse (c .ledger .feeds)) ≡ plansOf (inUse (d .ledger .feeds))
 

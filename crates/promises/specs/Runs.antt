@@ -59,9 +59,22 @@ Ends n x = (r : Answer) × (x .call ≡ end n r) × (r .verdict ≡ Yes)
 unfoldable pub Rests : ℕ → Did Call Desk → Type 0
 Rests p x = (r : Answer) × (x .call ≡ rest p r) × (r .verdict ≡ Yes)
 
--- the desk that an opening hands back, the empty one where it is refused
-abbrev pub opening : List ℕ → ℕ → Desk
-opening xs start = openedOf xs start .desk
+-- an opening: the feed list that is lent, the instant and the charge
+pub record Opening : Type 0 where
+  pub feeds : List ℕ
+  pub start : ℕ
+  pub charge : ℕ
+
+-- what it answers, and the desk that it hands back, the empty one where it is refused
+abbrev pub answerTo : Opening → Answer
+answerTo o = openedOf (o .feeds) (o .start) (o .charge)
+
+abbrev pub opened : Opening → Desk
+opened o = answerTo o .desk
+
+-- the charge that it sets: its own, and 0 where it is refused
+abbrev pub chargeOf : Opening → ℕ
+chargeOf o = opened o .ledger .charge .0
 
 -- an ask that was made, and one with a mesh
 abbrev pub asked : ℕ → ℕ → ℕ → Answer → Did Call Desk

@@ -51,7 +51,7 @@ MeshRefused d s size number lead x =
 pub record TheRefusalListed : Type 0 where
   pub first : (ls : List Line) (x : Refusal) → (firstOf ls ≡ No x) ↔ FirstThatHolds ls x
   pub passed : (ls : List Line) → (firstOf ls ≡ Yes) ↔ Each (λ l. l .holds ≡ false) ls
-  pub opening : (xs : List ℕ) (start : ℕ) → openedOf xs start .verdict ≡ firstOf (openLines xs start)
+  pub opening : (xs : List ℕ) (start charge : ℕ) → openedOf xs start charge .verdict ≡ firstOf (openLines xs start charge)
   pub ask : (d : Desk) (number work lead : ℕ) (r : Answer) → Asked d number work lead r
       → (x : Refusal) → (r .verdict ≡ No x) ↔ AskRefused d number work lead x
   pub mesh : (d : Desk) (s : List ℕ) (size number lead : ℕ) (r : Answer) → AskedMesh d s size number lead r
@@ -63,7 +63,7 @@ pub record TheRefusalListed : Type 0 where
 
 -- a refused call hands back the state that it was given
 pub record RefusedHandsBack : Type 0 where
-  pub opening : (xs : List ℕ) (start : ℕ) (x : Refusal) → openedOf xs start .verdict ≡ No x → openedOf xs start .desk ≡ empty
+  pub opening : (xs : List ℕ) (start charge : ℕ) (x : Refusal) → openedOf xs start charge .verdict ≡ No x → openedOf xs start charge .desk ≡ empty
   pub ask : (d : Desk) (number work lead : ℕ) (r : Answer) (x : Refusal) → Asked d number work lead r → r .verdict ≡ No x → r .desk ≡ d
   pub mesh : (d : Desk) (s : List ℕ) (size number lead : ℕ) (r : Answer) (x : Refusal) → AskedMesh d s size number lead r → r .verdict ≡ No x → r .desk ≡ d
   pub step : (d : Desk) (x : Refusal) → stepOf d .verdict ≡ No x → stepOf d ≡ record { desk = d; verdict = No x; who = Idle; owes = ticks 0 }

@@ -30,5 +30,5 @@ owed-taking j b D =
     )
 
 pub parts-make-owed : (l : Ledger) (j : Job) (D : ℕ)
-    → total (jobOwes D) (live (l .table)) + total (feedOwes (l .clock .0) D) (inUse (l .feeds)) + jobOwes D j ≡ owedBy (taking (bookJob j) (bookOf l)) D
+    → total (jobOwes D) (live (l .table)) + total (feedOwes (l .charge) (l .clock .0) D) (inUse (l .feeds)) + jobOwes D j ≡ owedBy (taking (bookJob j) (bookOf l)) D
 parts-make-owed l j D = omega (arith, owed-by-is l D, owed-taking (bookJob j) (bookOf l) D)

@@ -105,7 +105,7 @@ walked-done l best by o far w =
     let b = bookOf l in
     let R = roundOf (periods (inUse (l .feeds))) in
     let order = state-in-order l o in
-    let round = book-round 1 (inUse (l .feeds)) (o .feeds .passing) in
+    let round = book-round (l .charge) 1 (inUse (l .feeds)) (o .feeds .passing) in
     record {
       after = w .after;
       room = room-within-horizon b R (lastDue l .0) order round (last-beyond l) (λ D h k. w .room D h (omega arith));

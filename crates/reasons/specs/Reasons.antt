@@ -40,7 +40,7 @@ reasonAt l j at =
     record {
       at = at;
       jobs = ticks (total (jobOwes (at .0)) (live (l .table)));
-      feeds = ticks (total (feedOwes (l .clock .0) (at .0)) (inUse (l .feeds)));
+      feeds = ticks (total (feedOwes (l .charge) (l .clock .0) (at .0)) (inUse (l .feeds)));
       job = ticks (jobOwes (at .0) j);
       margin = margin (taking (bookJob j) (bookOf l)) (at .0);
     }

@@ -9,6 +9,7 @@ use ticks::Length;
 ghost use mathlib.Core.Path.{_≡_};
 ghost use Prim.Native.Nat.{_≤_, _<_};
 ghost use Rattle.lists.specs.Lists.{total, Each};
+ghost use Rattle.ticks.specs.declared.Length.{Length};
 ghost use Rattle.feeds.specs.Feeds.{mostFeeds, FeedIn, inUse};
 ghost use Rattle.jobs.specs.Jobs.{mostJobs, live};
 ghost use Rattle.edf.specs.Owed.{owedBy};
@@ -42,10 +43,10 @@ fn jobs_due_after(table: Table, by: Instant, till: Instant) -> Instant
     next
 }
 
-// The next deadline of a feed's pieces: they lie a period apart.
+// The next deadline of a feed's pieces: they lie a period apart, whatever the charge is.
 fn feed_due_after(feed: Feed, clock: Instant, by: Instant, till: Instant) -> Instant
     requires { ⌜ FeedIn feed × Reach clock by × (by .0 < till .0) ⌝ }
-    ensures { λ r. ⌜ Until (λ D. feedOwes (clock .0) D feed) (by .0) (till .0) (r .0) ⌝ }
+    ensures { λ r. ⌜ ((charge : Length) → Until (λ D. feedOwes charge (clock .0) D feed) (by .0) (till .0) (r .0)) ⌝ }
 {
     let due = feed.plan.due(clock);
     if due.is_after(by) {
@@ -58,7 +59,7 @@ fn feed_due_after(feed: Feed, clock: Instant, by: Instant, till: Instant) -> Ins
 // The next deadline of the feeds' pieces.
 fn feeds_due_after(feeds: Feeds, clock: Instant, by: Instant, till: Instant) -> Instant
     requires { ⌜ (feeds .count ≤ mostFeeds) × Each FeedIn (inUse feeds) × Reach clock by × (by .0 < till .0) ⌝ }
-    ensures { λ r. ⌜ Until (λ D. total (feedOwes (clock .0) D) (inUse feeds)) (by .0) (till .0) (r .0) ⌝ }
+    ensures { λ r. ⌜ ((charge : Length) → Until (λ D. total (feedOwes charge (clock .0) D) (inUse feeds)) (by .0) (till .0) (r .0)) ⌝ }
 {
     let count = feeds.count;
     let mut next = till;

@@ -115,7 +115,7 @@ pub fn reason_at(ledger: Ledger, job: Job, at: Instant) -> Reason
 {
     let clock = ledger.clock;
     let jobs = room::jobs_owe(ledger.table, at);
-    let printers = room::feeds_owe(ledger.feeds, clock, at);
+    let printers = room::feeds_owe(ledger.feeds, ledger.charge, clock, at);
     let asked = room::job_owes(job, at);
     Reason {
         at,

@@ -78,9 +78,10 @@ abbrev pub goneOf : Session → Answer → Reply
 goneOf s a = reply (gone s a) (Said.Go (answerOf (a .verdict)))
 
 -- `go`: only once, with the feeds heard so far
-unfoldable pub goOf : Session → ℕ → ℕ → Reply
-goOf s line start =
-    cond (s .opened || ltb mostFeedLines (s .feeds)) (badOf s line) (goneOf s (openedOf (take (numbersAFeed * s .feeds) (s .list)) start))
+unfoldable pub goOf : Session → ℕ → ℕ → ℕ → Reply
+goOf s line start charge =
+    cond (s .opened || ltb mostFeedLines (s .feeds)) (badOf s line)
+    (goneOf s (openedOf (take (numbersAFeed * s .feeds) (s .list)) start charge))
 
 -- a call after `go`: the desk that it hands back, and its answer
 abbrev pub callOf : Session → (ℕ → Said) → Answer → Reply

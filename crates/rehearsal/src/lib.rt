@@ -109,8 +109,8 @@ impl Session {
         }
     }
 
-    fn go(self, line: usize, start: u64) -> Reply
-        ensures { λ r. ⌜ r ≡ goOf self line start ⌝ }
+    fn go(self, line: usize, start: u64, charge: u32) -> Reply
+        ensures { λ r. ⌜ r ≡ goOf self line start charge ⌝ }
     {
         if self.opened {
             return self.bad(line);
@@ -120,7 +120,7 @@ impl Session {
         }
         let list = self.list;
         let numbers = Feed::NUMBERS * self.feeds;
-        let answer = Desk::open(&list[..numbers], start);
+        let answer = Desk::open(&list[..numbers], start, charge);
         let desk = answer.desk;
         let verdict = answer.verdict;
         let number = verdict.answer();
@@ -209,7 +209,7 @@ impl Session {
     {
         match means {
             Line::Feed(period, work, offset) => self.feed(line, period, work, offset),
-            Line::Go(start) => self.go(line, start),
+            Line::Go(start, charge) => self.go(line, start, charge),
             Line::Ask(number, work, lead) => self.ask(line, number, work, lead),
             Line::End(number) => self.end(line, number),
             Line::Rest(position) => self.rest(line, position),

@@ -9,6 +9,7 @@ use Rattle.lists.specs.Lists.{Each}
 use Rattle.lists.proofs.Lists.{each-imp, each-map}
 use Rattle.lists.proofs.Tests.{ltb-elim}
 use Rattle.ticks.specs.declared.Instant.{Instant}
+use Rattle.ticks.specs.declared.Length.{Length}
 use Rattle.ticks.specs.Ticks.{mostJob, laterOf}
 use Rattle.plans.specs.declared.Plan.{Plan}
 use Rattle.plans.specs.Plans.{next}
@@ -65,9 +66,9 @@ next-near : (p : Plan) (t : ℕ) → next p t ≤ t + p .period .0
 unfolding next
 next-near p t = omega arith
 
-next-beyond : (t L k : ℕ) (fs : List Feed) → Each (λ f. next (f .plan) t ≤ L) fs → Each (λ p. releases.next p t ≤ L) (plans (bookFeeds k fs))
-next-beyond t L k [] h = tt
-next-beyond t L k (f ∷ fs) h = (subst (_≤ L) (next-read (f .plan) t) (h .0), next-beyond t L (suc k) fs (h .1))
+next-beyond : (c : Length) (t L k : ℕ) (fs : List Feed) → Each (λ f. next (f .plan) t ≤ L) fs → Each (λ p. releases.next p t ≤ L) (plans (bookFeeds c k fs))
+next-beyond c t L k [] h = tt
+next-beyond c t L k (f ∷ fs) h = (subst (_≤ L) (next-read c (f .plan) t) (h .0), next-beyond c t L (suc k) fs (h .1))
 
 module _ (l : Ledger) where
   lastDeadline : Instant
@@ -85,7 +86,7 @@ module _ (l : Ledger) where
             (λ j k. le-trans k behind)
             (live (l .table))
             (latest-each (λ j. j .deadline) (live (l .table)) (l .clock)));
-        feeds = next-beyond (l .clock .0) (lastDue l .0) 1 (inUse (l .feeds)) (latest-each (nextOf (l .clock)) (inUse (l .feeds)) lastDeadline);
+        feeds = next-beyond (l .charge) (l .clock .0) (lastDue l .0) 1 (inUse (l .feeds)) (latest-each (nextOf (l .clock)) (inUse (l .feeds)) lastDeadline);
       }
 
   -- and no further ahead than the longest lead
@@ -94,7 +95,7 @@ module _ (l : Ledger) where
   last-near o =
       latest-least (nextOf (l .clock)) (inUse (l .feeds)) _ (l .clock .0 + mostJob)
       (latest-least (λ j. j .deadline) (live (l .table)) (l .clock) (l .clock .0 + mostJob) (omega arith)
-      (each-imp (JobIn (l .clock)) (λ j. j .deadline .0 ≤ l .clock .0 + mostJob) (λ j k. k .near) (live (l .table)) (o .jobs .each)))
+      (each-imp (JobIn (l .charge) (l .clock)) (λ j. j .deadline .0 ≤ l .clock .0 + mostJob) (λ j k. k .near) (live (l .table)) (o .jobs .each)))
       (each-imp FeedIn (λ f. next (f .plan) (l .clock .0) ≤ l .clock .0 + mostJob)
       (λ f k. omega (arith, next-near (f .plan) (l .clock .0), k .period .1))
       (inUse (l .feeds))

@@ -6,9 +6,10 @@ use native.Mathlib.Nat.{le-trans, mul-le-mul, div-le-self, div-add-mod', div-lt-
 use native.Mathlib.Omega.{arith}
 use Rattle.lists.specs.Lists.{total, Each}
 use Rattle.lists.proofs.Lists.{each-imp, each-both, total-map}
-use Rattle.ticks.specs.Ticks.{mostFeed}
+use Rattle.ticks.specs.declared.Length.{Length}
+use Rattle.ticks.specs.Ticks.{mostCharge}
 use Rattle.plans.specs.declared.Plan.{Plan}
-use Rattle.plans.specs.Plans.{PlanIn, leadOf, due}
+use Rattle.plans.specs.Plans.{mostPiece, PlanIn, leadOf, due, charged}
 use Rattle.plans.proofs.Plans.{since-lt}
 use Rattle.feeds.specs.declared.Feed.{Feed}
 use Rattle.feeds.specs.Feeds.{FeedIn, inUse}
@@ -31,38 +32,40 @@ unfolding due
 due-ahead p t h = let s = since-lt p t h in (omega arith, omega arith)
 
 -- of the pieces that come later one more is due by D with every period since the current one was due
-later-pieces : (p : Plan) (t D : ℕ) → PlanIn p → laterCount t D (bookPlan p) ≡ (D - due p t) / p .period .0
+later-pieces : (c : Length) (p : Plan) (t D : ℕ) → PlanIn p → laterCount t D (bookPlan c p) ≡ (D - due p t) / p .period .0
 unfolding due
-later-pieces p t D h =
-    let gap : D + since (bookPlan p) t - (t + leadOf p .0) ≡ D - due p t = omega (arith, since-read p t, since-lt p t h) in
+later-pieces c p t D h =
+    let gap : D + since (bookPlan c p) t - (t + leadOf p .0) ≡ D - due p t = omega (arith, since-read c p t, since-lt p t h) in
     ap (_/ p .period .0) gap
 
 -- before its current piece is due a feed owes nothing
-pub feed-owes-before : (t D : ℕ) (f : Feed) → FeedIn f → D < due (f .plan) t → feedOwes t D f ≡ 0
+pub feed-owes-before : (c : Length) (t D : ℕ) (f : Feed) → FeedIn f → D < due (f .plan) t → feedOwes c t D f ≡ 0
 unfolding feedOwes
-feed-owes-before t D f h k =
+feed-owes-before c t D f h k =
     omega (
       arith,
       byThen-out D (due (f .plan) t) (f .owes .0) k,
-      laterBy-past t D (bookPlan (f .plan)) (h .offset) (omega (arith, due-ahead (f .plan) t h .1)),
+      laterBy-past t D (bookPlan c (f .plan)) (h .offset) (omega (arith, due-ahead (f .plan) t h .1)),
     )
 
 -- from then on its current piece, and a whole one more with every period
-pub feed-owes-from : (t D : ℕ) (f : Feed) → FeedIn f → due (f .plan) t ≤ D
-    → feedOwes t D f ≡ f .owes .0 + f .plan .work .0 * ((D - due (f .plan) t) / f .plan .period .0)
+pub feed-owes-from : (c : Length) (t D : ℕ) (f : Feed) → FeedIn f → due (f .plan) t ≤ D
+    → feedOwes c t D f ≡ f .owes .0 + charged c (f .plan) * ((D - due (f .plan) t) / f .plan .period .0)
 unfolding feedOwes
-feed-owes-from t D f h k =
+feed-owes-from c t D f h k =
     omega (
       arith,
       byThen-in D (due (f .plan) t) (f .owes .0) k,
-      ap (f .plan .work .0 *_) (later-pieces (f .plan) t D h),
+      ap (charged c (f .plan) *_) (later-pieces c (f .plan) t D h),
     )
 
 -- the later pieces that are due by an instant within reach are not many
-pub pieces-most : (t D : ℕ) (p : Plan) → PlanIn p → D ≤ t + farthest → p .work .0 * ((D - due p t) / p .period .0) ≤ mostFeed * farthest
-pieces-most t D p h k =
+pub pieces-most : (c : Length) (t D : ℕ) (p : Plan) → PlanIn p → c .0 ≤ mostCharge → D ≤ t + farthest
+    → charged c p * ((D - due p t) / p .period .0) ≤ mostPiece * farthest
+pieces-most c t D p h low k =
+    let owes : charged c p ≤ mostPiece = omega (arith, h .work .1) in
     let near : D - due p t ≤ farthest = omega (arith, due-ahead p t h .0) in
-    mul-le-mul (h .work .1) (le-trans (div-le-self (D - due p t) (p .period .0)) near)
+    mul-le-mul owes (le-trans (div-le-self (D - due p t) (p .period .0)) near)
 
 same-quotient : (T m n : ℕ) → 1 ≤ T → m ≤ n → n < m + (T - m % T) → n / T ≡ m / T
 same-quotient T m n p l h =
@@ -70,42 +73,42 @@ same-quotient T m n p l h =
     omega (arith, div-mono T m n l)
 
 -- nothing comes due before the current piece
-pub feed-still-before : (t by : ℕ) (f : Feed) → FeedIn f → (E : ℕ) → by ≤ E → E < due (f .plan) t → feedOwes t E f ≡ feedOwes t by f
-feed-still-before t by f h E k l = feed-owes-before t E f h l ∙ sym (feed-owes-before t by f h (omega arith))
+pub feed-still-before : (c : Length) (t by : ℕ) (f : Feed) → FeedIn f → (E : ℕ) → by ≤ E → E < due (f .plan) t → feedOwes c t E f ≡ feedOwes c t by f
+feed-still-before c t by f h E k l = feed-owes-before c t E f h l ∙ sym (feed-owes-before c t by f h (omega arith))
 
 -- nor between two deadlines
-pub feed-still-from : (t by : ℕ) (f : Feed) → FeedIn f → due (f .plan) t ≤ by
-    → (E : ℕ) → by ≤ E → E < by + (f .plan .period .0 - (by - due (f .plan) t) % f .plan .period .0) → feedOwes t E f ≡ feedOwes t by f
-feed-still-from t by f h d E k l =
+pub feed-still-from : (c : Length) (t by : ℕ) (f : Feed) → FeedIn f → due (f .plan) t ≤ by
+    → (E : ℕ) → by ≤ E → E < by + (f .plan .period .0 - (by - due (f .plan) t) % f .plan .period .0) → feedOwes c t E f ≡ feedOwes c t by f
+feed-still-from c t by f h d E k l =
     let T = f .plan .period .0 in
     let x = due (f .plan) t in
     let q : (E - x) / T ≡ (by - x) / T
     = same-quotient T (by - x) (E - x) (h .period .0) (omega arith) (omega (arith, mod-lt (by - x) (h .period .0))) in
-    feed-owes-from t E f h (omega arith)
-    ∙ ap (λ n. f .owes .0 + f .plan .work .0 * n) q
-    ∙ sym (feed-owes-from t by f h d)
+    feed-owes-from c t E f h (omega arith)
+    ∙ ap (λ n. f .owes .0 + charged c (f .plan) * n) q
+    ∙ sym (feed-owes-from c t by f h d)
 
-feeds-owe-is : (t D k : ℕ) (fs : List Feed) → total (bookFeedOwes t D) (bookFeeds k fs) ≡ total (feedOwes t D) fs
+feeds-owe-is : (c : Length) (t D k : ℕ) (fs : List Feed) → total (bookFeedOwes t D) (bookFeeds c k fs) ≡ total (feedOwes c t D) fs
 unfolding feedOwes
-feeds-owe-is t D k [] = refl
-feeds-owe-is t D k (f ∷ fs) =
-    λ i. (byThen D (sym (due-read (f .plan) t) i) (f .owes .0) + laterBy t D (bookPlan (f .plan))) + feeds-owe-is t D (suc k) fs i
+feeds-owe-is c t D k [] = refl
+feeds-owe-is c t D k (f ∷ fs) =
+    λ i. (byThen D (sym (due-read c (f .plan) t) i) (f .owes .0) + laterBy t D (bookPlan c (f .plan))) + feeds-owe-is c t D (suc k) fs i
 
 -- WHAT IS OWED, of the desk's own jobs and feeds
 pub owed-by-is : (l : Ledger) (D : ℕ)
-    → total (jobOwes D) (live (l .table)) + total (feedOwes (l .clock .0) D) (inUse (l .feeds)) ≡ owedBy (bookOf l) D
+    → total (jobOwes D) (live (l .table)) + total (feedOwes (l .charge) (l .clock .0) D) (inUse (l .feeds)) ≡ owedBy (bookOf l) D
 owed-by-is l D =
     omega (
       arith,
       owedBy-split (bookOf l) D,
       total-map (λ j. dueBy D (jobPiece (l .clock .0) j)) bookJob (live (l .table)),
-      feeds-owe-is (l .clock .0) D 1 (inUse (l .feeds)),
+      feeds-owe-is (l .charge) (l .clock .0) D 1 (inUse (l .feeds)),
     )
 
 -- what a state in order says of the jobs and of the feeds that are added up
 module _ (l : Ledger) (o : InOrder l) where
   pub jobs-modest : Each Modest (live (l .table))
-  jobs-modest = each-imp (JobIn (l .clock)) Modest (λ j k. k .owed .1) (live (l .table)) (o .jobs .each)
+  jobs-modest = each-imp (JobIn (l .charge) (l .clock)) Modest (λ j k. omega (arith, k .owed .1, o .charge)) (live (l .table)) (o .jobs .each)
 
-  pub feeds-ordered : Each (FeedOrdered (l .clock)) (inUse (l .feeds))
-  feeds-ordered = each-both FeedIn (PieceIn (l .clock)) (inUse (l .feeds)) (o .feeds .passing .within) (o .feeds .pieces)
+  pub feeds-ordered : Each (FeedOrdered (l .charge) (l .clock)) (inUse (l .feeds))
+  feeds-ordered = each-both FeedIn (PieceIn (l .charge) (l .clock)) (inUse (l .feeds)) (o .feeds .passing .within) (o .feeds .pieces)

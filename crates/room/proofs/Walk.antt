@@ -55,7 +55,7 @@ fits-says l r o s =
     let b = bookOf l in
     let order = state-in-order l o in
     let same = fits-iff-room b order (state-light l o) in
-    let round = book-round 1 (inUse (l .feeds)) (o .feeds .passing) in
+    let round = book-round (l .charge) 1 (inUse (l .feeds)) (o .feeds .passing) in
     record {
       yes = λ e. same .1 (room-within-horizon b (roundOf (periods (inUse (l .feeds)))) (lastDue l .0) order round (last-beyond l) (s .yes e));
       no = λ e fit. s .no e (λ D h k. same .0 fit D h);

@@ -1,8 +1,9 @@
 -- What is owed by an instant, told of the desk's own jobs and feeds.
 use Prim.Native.Nat.{ℕ, _+_, _*_, _≤_}
 use Rattle.ticks.specs.declared.Instant.{Instant}
-use Rattle.ticks.specs.Ticks.{lastInstant, mostJob, mostFeed, mostRound}
-use Rattle.plans.specs.Plans.{due}
+use Rattle.ticks.specs.declared.Length.{Length}
+use Rattle.ticks.specs.Ticks.{lastInstant, mostJob, mostRound, mostCharge}
+use Rattle.plans.specs.Plans.{mostPiece, due}
 use Rattle.feeds.specs.declared.Feed.{Feed}
 use Rattle.feeds.specs.Feeds.{FeedIn}
 use Rattle.feeds.specs.Pieces.{PieceIn}
@@ -14,17 +15,21 @@ use Rattle.ledger.specs.Books.{bookPlan}
 abbrev pub jobOwes : ℕ → Job → ℕ
 jobOwes D j = byThen D (j .deadline .0) (j .owed .0)
 
+-- the most that a job may owe: the most work and the highest charge
+abbrev pub mostOwed : ℕ
+mostOwed = mostJob + mostCharge
+
 -- a job owes no more than a job may
 abbrev pub Modest : Job → Type 0
-Modest j = j .owed .0 ≤ mostJob
+Modest j = j .owed .0 ≤ mostOwed
 
--- what a feed owes by D, told at the instant t: its current piece and those to come
-unfoldable pub feedOwes : ℕ → ℕ → Feed → ℕ
-feedOwes t D f = byThen D (due (f .plan) t) (f .owes .0) + laterBy t D (bookPlan (f .plan))
+-- what a feed owes by D, told at the instant t: its current piece and those to come, each of these with the charge
+unfoldable pub feedOwes : Length → ℕ → ℕ → Feed → ℕ
+feedOwes charge t D f = byThen D (due (f .plan) t) (f .owes .0) + laterBy t D (bookPlan charge (f .plan))
 
 -- a feed in order at the clock's instant
-abbrev pub FeedOrdered : Instant → Feed → Type 0
-FeedOrdered clock f = FeedIn f × PieceIn clock f
+abbrev pub FeedOrdered : Length → Instant → Feed → Type 0
+FeedOrdered charge clock f = FeedIn f × PieceIn charge clock f
 
 -- no instant is looked at that lies further ahead: the longest lead and the longest round
 abbrev pub farthest : ℕ
@@ -32,7 +37,7 @@ farthest = mostJob + mostRound
 
 -- the most that one feed owes by such an instant
 abbrev pub mostOfFeed : ℕ
-mostOfFeed = mostFeed * (farthest + 1)
+mostOfFeed = mostPiece * (farthest + 1)
 
 -- an instant that is looked at
 pub record Reach (clock by : Instant) : Type 0 where

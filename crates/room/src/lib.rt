@@ -11,13 +11,13 @@ use ticks::Length;
 ghost use mathlib.Core.Path.{_≡_};
 ghost use Prim.Native.Nat.{_+_, _*_, _≤_, _<_, _^_};
 ghost use Rattle.lists.specs.Lists.{total, Each};
-ghost use Rattle.ticks.specs.Ticks.{mostJob, ticks};
+ghost use Rattle.ticks.specs.Ticks.{mostCharge, ticks};
 ghost use Rattle.feeds.specs.Feeds.{mostFeeds, FeedIn, inUse};
 ghost use Rattle.jobs.specs.Jobs.{mostJobs, live};
 ghost use Rattle.edf.specs.Owed.{owedBy};
 ghost use Rattle.ledger.specs.State.{InOrder};
 ghost use Rattle.ledger.specs.Books.{bookOf};
-ghost use Rattle.room.specs.Owed.{jobOwes, Modest, feedOwes, FeedOrdered, mostOfFeed, Reach};
+ghost use Rattle.room.specs.Owed.{mostOwed, jobOwes, Modest, feedOwes, FeedOrdered, mostOfFeed, Reach};
 ghost use Rattle.room.specs.Ahead.{latestOf, nextOf, horizonOf};
 ghost use Rattle.room.specs.Walk.{RoomSays, FitsSays};
 
@@ -34,7 +34,7 @@ pub fn job_owes(job: Job, by: Instant) -> u64
 // The customers' part of what is owed by an instant.
 pub fn jobs_owe(table: Table, by: Instant) -> u64
     requires { ⌜ (table .count ≤ mostJobs) × Each Modest (live table) ⌝ }
-    ensures { λ r. ⌜ (r ≡ total (jobOwes (by .0)) (live table)) × (r ≤ mostJobs * mostJob) ⌝ }
+    ensures { λ r. ⌜ (r ≡ total (jobOwes (by .0)) (live table)) × (r ≤ mostJobs * mostOwed) ⌝ }
 {
     let count = table.count;
     let mut sum = 0;
@@ -45,27 +45,27 @@ pub fn jobs_owe(table: Table, by: Instant) -> u64
 }
 
 // The current piece counts from its deadline on, and from then on a whole piece more with every period.
-fn feed_owes(feed: Feed, clock: Instant, by: Instant) -> u64
-    requires { ⌜ FeedOrdered clock feed × Reach clock by ⌝ }
-    ensures { λ r. ⌜ (r ≡ feedOwes (clock .0) (by .0) feed) × (r ≤ mostOfFeed) ⌝ }
+fn feed_owes(feed: Feed, charge: Length, clock: Instant, by: Instant) -> u64
+    requires { ⌜ FeedOrdered charge clock feed × (charge .0 ≤ mostCharge) × Reach clock by ⌝ }
+    ensures { λ r. ⌜ (r ≡ feedOwes charge (clock .0) (by .0) feed) × (r ≤ mostOfFeed) ⌝ }
 {
     let due = feed.plan.due(clock);
     if due.is_after(by) {
         return 0;
     }
     let pieces = by.ticks_since(due).0 / feed.plan.period.0;
-    feed.owes.0 + feed.plan.work.0 * pieces
+    feed.owes.0 + feed.plan.charged(charge).0 * pieces
 }
 
 // The printers' part of what is owed by an instant.
-pub fn feeds_owe(feeds: Feeds, clock: Instant, by: Instant) -> u64
-    requires { ⌜ (feeds .count ≤ mostFeeds) × Each (FeedOrdered clock) (inUse feeds) × Reach clock by ⌝ }
-    ensures { λ r. ⌜ (r ≡ total (feedOwes (clock .0) (by .0)) (inUse feeds)) × (r ≤ mostFeeds * mostOfFeed) ⌝ }
+pub fn feeds_owe(feeds: Feeds, charge: Length, clock: Instant, by: Instant) -> u64
+    requires { ⌜ (feeds .count ≤ mostFeeds) × Each (FeedOrdered charge clock) (inUse feeds) × (charge .0 ≤ mostCharge) × Reach clock by ⌝ }
+    ensures { λ r. ⌜ (r ≡ total (feedOwes charge (clock .0) (by .0)) (inUse feeds)) × (r ≤ mostFeeds * mostOfFeed) ⌝ }
 {
     let count = feeds.count;
     let mut sum = 0;
     for i in 0..count {
-        sum += feed_owes(feeds.feeds[i], clock, by);
+        sum += feed_owes(feeds.feeds[i], charge, clock, by);
     }
     sum
 }
@@ -75,7 +75,7 @@ pub fn owed_by(ledger: Ledger, by: Instant) -> Length
     requires { ⌜ InOrder ledger × Reach (ledger .clock) by ⌝ }
     ensures { λ r. ⌜ r ≡ ticks (owedBy (bookOf ledger) (by .0)) ⌝ }
 {
-    Length(jobs_owe(ledger.table, by) + feeds_owe(ledger.feeds, ledger.clock, by))
+    Length(jobs_owe(ledger.table, by) + feeds_owe(ledger.feeds, ledger.charge, ledger.clock, by))
 }
 
 // The last deadline of the jobs, if it is after this instant.

@@ -5,15 +5,19 @@ use mathlib.Core.List.{List, [], _∷_, _++_, map}
 use Prim.Native.Nat.{ℕ, suc}
 use lib.Dec.{ltb, leb, eqb}
 use Rattle.ticks.specs.declared.Instant.{Instant}
+use Rattle.ticks.specs.declared.Length.{Length}
+use Rattle.ticks.specs.Ticks.{instant}
 use Rattle.feeds.specs.declared.Feed.{Feed}
 use Rattle.jobs.specs.declared.Job.{Job}
+use Rattle.answers.specs.declared.Who.the-variants as who
 use Rattle.edf.specs.Book.{Book}
 use Rattle.edf.specs.Pieces.{Piece as BookPiece, jobPiece, currentPiece}
 use Rattle.edf.specs.Step.{kind, numberOf, first, sooner, goesBefore, foremost, runner}
 use Rattle.ledger.specs.Books.{bookFeeds, bookJob, bookAt, whoOf}
 use Rattle.ledger.proofs.Books.{who-back}
+use Rattle.ledger.proofs.Pieces.{due-read}
 use Rattle.serving.specs.declared.Piece.{Piece}
-use Rattle.serving.specs.Front.{frontOf, pieceOf, firstOfTwo, nobodyFront, jobFront, feedFront, foremostOver, jobFronts, feedFronts}
+use Rattle.serving.specs.Front.{frontOf, pieceOf, firstOfTwo, nobodyFront, jobFront, foremostOver, jobFronts, feedFronts}
 
 -- who goes first does not turn on from when on a piece is ready
 goes-alike : (p q : BookPiece) → goesBefore (pieceOf (frontOf p)) (pieceOf (frontOf q)) ≡ goesBefore p q
@@ -41,30 +45,31 @@ job-fronts : (t : ℕ) (js : List Job) → jobFronts js ≡ map frontOf (map (jo
 job-fronts t [] = refl
 job-fronts t (j ∷ js) = ap (jobFront j ∷_) (job-fronts t js)
 
-feed-fronts : (t : Instant) (k : ℕ) (fs : List Feed) → feedFronts t k fs ≡ map frontOf (map (currentPiece (t .0)) (bookFeeds k fs))
-feed-fronts t k [] = refl
-feed-fronts t k (f ∷ fs) = ap (feedFront t k f ∷_) (feed-fronts t (suc k) fs)
+feed-fronts : (c : Length) (t : Instant) (k : ℕ) (fs : List Feed) → feedFronts t k fs ≡ map frontOf (map (currentPiece (t .0)) (bookFeeds c k fs))
+feed-fronts c t k [] = refl
+feed-fronts c t k (f ∷ fs) =
+    λ i. record { who = who.Feed k; due = instant (due-read c (f .plan) (t .0) i); owes = f .owes } ∷ feed-fronts c t (suc k) fs i
 
 append-none : (ps : List BookPiece) → ps ++ [] ≡ ps
 append-none [] = refl
 append-none (p ∷ ps) = ap (p ∷_) (append-none ps)
 
 -- the foremost feed
-feeds-foremost : (t : Instant) (k : ℕ) (fs : List Feed)
-    → foremostOver (feedFronts t k fs) nobodyFront ≡ frontOf (foremost (map (currentPiece (t .0)) (bookFeeds k fs)))
+feeds-foremost : (c : Length) (t : Instant) (k : ℕ) (fs : List Feed)
+    → foremostOver (feedFronts t k fs) nobodyFront ≡ frontOf (foremost (map (currentPiece (t .0)) (bookFeeds c k fs)))
 unfolding foremost
-feeds-foremost t k fs =
-    ap (λ ps. foremostOver ps nobodyFront) (feed-fronts t k fs)
-    ∙ over-is (map (currentPiece (t .0)) (bookFeeds k fs)) []
-    ∙ ap (λ ps. frontOf (foremost ps)) (append-none (map (currentPiece (t .0)) (bookFeeds k fs)))
+feeds-foremost c t k fs =
+    ap (λ ps. foremostOver ps nobodyFront) (feed-fronts c t k fs)
+    ∙ over-is (map (currentPiece (t .0)) (bookFeeds c k fs)) []
+    ∙ ap (λ ps. frontOf (foremost ps)) (append-none (map (currentPiece (t .0)) (bookFeeds c k fs)))
 
 -- THE RUNNER
-pub foremost-is-runner : (t : Instant) (fs : List Feed) (js : List Job)
-    → foremostOver (jobFronts js) (foremostOver (feedFronts t 1 fs) nobodyFront) ≡ frontOf (runner (bookAt t fs js))
+pub foremost-is-runner : (c : Length) (t : Instant) (fs : List Feed) (js : List Job)
+    → foremostOver (jobFronts js) (foremostOver (feedFronts t 1 fs) nobodyFront) ≡ frontOf (runner (bookAt c t fs js))
 unfolding runner
-foremost-is-runner t fs js =
-    (λ i. foremostOver (job-fronts (t .0) js i) (feeds-foremost t 1 fs i))
-    ∙ over-is (map (jobPiece (t .0)) (map bookJob js)) (map (currentPiece (t .0)) (bookFeeds 1 fs))
+foremost-is-runner c t fs js =
+    (λ i. foremostOver (job-fronts (t .0) js i) (feeds-foremost c t 1 fs i))
+    ∙ over-is (map (jobPiece (t .0)) (map bookJob js)) (map (currentPiece (t .0)) (bookFeeds c 1 fs))
 
 -- whose the foremost piece is runs
 pub front-who : (b : Book) (p : Piece) → p ≡ frontOf (runner b) → runner b .who ≡ whoOf (p .who)

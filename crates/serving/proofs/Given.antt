@@ -7,6 +7,7 @@ use native.Mathlib.Nat.{sub-zero}
 use lib.Dec.{ltb}
 use borrow.Author.Tests.{lt-ltb}
 use Rattle.lists.specs.Lists.{eq, Each, keep}
+use Rattle.ticks.specs.declared.Length.{Length}
 use Rattle.feeds.specs.declared.Feed.{Feed}
 use Rattle.feeds.specs.Feeds.{plansOf}
 use Rattle.feeds.proofs.Same.{served-plans}
@@ -22,18 +23,18 @@ use Rattle.ledger.proofs.Pieces.{served-read}
 use Rattle.serving.specs.Tick.{servedFeeds, servedJobs}
 
 -- a tick that goes to no feed leaves the feeds as they are
-feeds-unserved : (g : edf.Who) (k : ℕ) (fs : List Feed) → ((p : ℕ) → edf.same g (edf.feed p) ≡ 0) → map (serveFeed g) (bookFeeds k fs) ≡ bookFeeds k fs
-feeds-unserved g k [] z = refl
-feeds-unserved g k (f ∷ fs) z =
+feeds-unserved : (c : Length) (g : edf.Who) (k : ℕ) (fs : List Feed) → ((p : ℕ) → edf.same g (edf.feed p) ≡ 0) → map (serveFeed g) (bookFeeds c k fs) ≡ bookFeeds c k fs
+feeds-unserved c g k [] z = refl
+feeds-unserved c g k (f ∷ fs) z =
     let e : f .owes .0 - edf.same g (edf.feed k) ≡ f .owes .0 = ap (f .owes .0 -_) (z k) ∙ sub-zero (f .owes .0) in
-    λ i. record { position = k; plan = bookPlan (f .plan); owes = e i } ∷ feeds-unserved g (suc k) fs z i
+    λ i. record { position = k; plan = bookPlan c (f .plan); owes = e i } ∷ feeds-unserved c g (suc k) fs z i
 
 -- the feeds read after the tick are the feeds of the book after it
-pub feeds-given : (w : Who) (fs : List Feed) → bookFeeds 1 (servedFeeds w fs) ≡ map (serveFeed (whoOf w)) (bookFeeds 1 fs)
+pub feeds-given : (c : Length) (w : Who) (fs : List Feed) → bookFeeds c 1 (servedFeeds w fs) ≡ map (serveFeed (whoOf w)) (bookFeeds c 1 fs)
 unfolding edf.same
-feeds-given (who.Feed p) fs = served-read p 1 fs
-feeds-given (who.Job n) fs = sym (feeds-unserved (edf.job n) 1 fs (λ p. refl))
-feeds-given who.Idle fs = sym (feeds-unserved edf.idle 1 fs (λ p. refl))
+feeds-given c (who.Feed p) fs = served-read c p 1 fs
+feeds-given c (who.Job n) fs = sym (feeds-unserved c (edf.job n) 1 fs (λ p. refl))
+feeds-given c who.Idle fs = sym (feeds-unserved c edf.idle 1 fs (λ p. refl))
 
 -- no plan changes
 pub given-plans : (w : Who) (fs : List Feed) → plansOf (servedFeeds w fs) ≡ plansOf fs

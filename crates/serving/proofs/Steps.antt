@@ -7,6 +7,7 @@ use native.Mathlib.Omega.{arith}
 use lib.ListN.{length, length-map}
 use Rattle.lists.specs.Lists.{Each}
 use Rattle.lists.proofs.Lists.{each-imp}
+use Rattle.ticks.specs.declared.Length.{Length}
 use Rattle.ticks.specs.Ticks.{instant, next}
 use Rattle.feeds.specs.declared.Feed.{Feed}
 use Rattle.feeds.specs.Feeds.{FeedIn, inUse, feedsOf, Tidy}
@@ -25,20 +26,20 @@ use Rattle.ledger.proofs.Pieces.{arrived-turned}
 use Rattle.serving.specs.Tick.{servedFeeds, servedJobs}
 use Rattle.serving.proofs.Given.{feeds-given, given-plans, jobs-given}
 
-length-read : (k : ℕ) (fs : List Feed) → length (bookFeeds k fs) ≡ length fs
-length-read k [] = refl
-length-read k (f ∷ fs) = ap suc (length-read (suc k) fs)
+length-read : (c : Length) (k : ℕ) (fs : List Feed) → length (bookFeeds c k fs) ≡ length fs
+length-read c k [] = refl
+length-read c k (f ∷ fs) = ap suc (length-read c (suc k) fs)
 
 -- the state after the tick went to w, and at the next instant
 abbrev pub given : Ledger → Who → Ledger
 given l w =
-    moved l (next (l .clock)) (feedsOf (map (arrived (next (l .clock))) (servedFeeds w (inUse (l .feeds)))))
+    moved l (next (l .clock)) (feedsOf (map (arrived (l .charge) (next (l .clock))) (servedFeeds w (inUse (l .feeds)))))
     (tableOf (servedJobs w (live (l .table))))
 
 module _ (l : Ledger) (o : InOrder l) where
   -- live jobs owe something
   pub owing-jobs : Each Owing (live (l .table))
-  owing-jobs = each-imp (JobIn (l .clock)) Owing (λ j h. h .owed .0) (live (l .table)) (o .jobs .each)
+  owing-jobs = each-imp (JobIn (l .charge) (l .clock)) Owing (λ j h. h .owed .0) (live (l .table)) (o .jobs .each)
 
   -- the feeds after a tick are within their limits, and in their places
   given-within : (w : Who) → Each FeedIn (servedFeeds w (inUse (l .feeds)))
@@ -53,15 +54,15 @@ module _ (l : Ledger) (o : InOrder l) where
       (tidy-of gs (omega (arith, o .feeds .passing .few)), subst (Each FeedIn) (sym (in-use-of gs)) (given-within w))
 
   feeds-stepped : (w : Who) → runner (bookOf l) .who ≡ whoOf w
-      → map (arrived (instant (suc (l .clock .0)))) (servedFeeds w (inUse (l .feeds))) ≡ owingAs (step (bookOf l) .feeds) (inUse (l .feeds))
+      → map (arrived (l .charge) (instant (suc (l .clock .0)))) (servedFeeds w (inUse (l .feeds))) ≡ owingAs (step (bookOf l) .feeds) (inUse (l .feeds))
   unfolding step stepBy turn serve
   feeds-stepped w e =
       let fs = inUse (l .feeds) in
       let gs = servedFeeds w fs in
       let x = suc (l .clock .0) in
-      arrived-turned (instant x) 1 gs (given-within w)
-      ∙ owing-as-alike (map (turnFeed x) (bookFeeds 1 gs)) gs fs (length-map (bookFeeds 1 gs) (turnFeed x) ∙ length-read 1 gs) (given-plans w fs)
-      ∙ ap (λ ks. owingAs (map (turnFeed x) ks) fs) (feeds-given w fs)
+      arrived-turned (l .charge) (instant x) 1 gs (given-within w)
+      ∙ owing-as-alike (map (turnFeed x) (bookFeeds (l .charge) 1 gs)) gs fs (length-map (bookFeeds (l .charge) 1 gs) (turnFeed x) ∙ length-read (l .charge) 1 gs) (given-plans w fs)
+      ∙ ap (λ ks. owingAs (map (turnFeed x) ks) fs) (feeds-given (l .charge) w fs)
       ∙ ap (λ g. owingAs (stepBy g (bookOf l) .feeds) fs) (sym e)
 
   jobs-stepped : (w : Who) → runner (bookOf l) .who ≡ whoOf w → servedJobs w (live (l .table)) ≡ map jobOf (step (bookOf l) .jobs)
@@ -74,5 +75,5 @@ module _ (l : Ledger) (o : InOrder l) where
   given-stepped w e =
       let fs = inUse (l .feeds) in
       let js = live (l .table) in
-      (λ i. moved l (instant (add-one (l .clock .0) i)) (feedsOf (map (arrived (instant (add-one (l .clock .0) i))) (servedFeeds w fs))) (tableOf (servedJobs w js)))
+      (λ i. moved l (instant (add-one (l .clock .0) i)) (feedsOf (map (arrived (l .charge) (instant (add-one (l .clock .0) i))) (servedFeeds w fs))) (tableOf (servedJobs w js)))
       ∙ (λ i. moved l (instant (suc (l .clock .0))) (feedsOf (feeds-stepped w e i)) (tableOf (jobs-stepped w e i)))

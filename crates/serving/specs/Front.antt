@@ -6,10 +6,11 @@ use Rattle.ticks.specs.declared.Instant.{Instant}
 use Rattle.ticks.specs.Ticks.{instant, ticks}
 use Rattle.feeds.specs.declared.Feed.{Feed}
 use Rattle.jobs.specs.declared.Job.{Job}
-use Rattle.edf.specs.Pieces.{Piece as BookPiece, currentPiece}
+use Rattle.plans.specs.Plans.{due}
+use Rattle.edf.specs.Pieces.{Piece as BookPiece}
 use Rattle.edf.specs.Step.{sooner, goesBefore, nobody}
 use Rattle.answers.specs.declared.Who.the-variants as who
-use Rattle.ledger.specs.Books.{bookFeed, whoOf, whoIs}
+use Rattle.ledger.specs.Books.{whoOf, whoIs}
 use Rattle.serving.specs.declared.Piece.{Piece}
 
 -- a piece of the mathematics as the code has it: who, when due and what is owed
@@ -36,8 +37,9 @@ nobodyFront = frontOf nobody
 abbrev pub jobFront : Job → Piece
 jobFront j = record { who = who.Job (j .number); due = j .deadline; owes = j .owed }
 
+-- the current piece of the feed at a position
 abbrev pub feedFront : Instant → ℕ → Feed → Piece
-feedFront t k f = frontOf (currentPiece (t .0) (bookFeed k f))
+feedFront t k f = record { who = who.Feed k; due = instant (due (f .plan) (t .0)); owes = f .owes }
 
 -- the one of these that goes first, and where none of them goes before it, the last
 unfoldable pub foremostOver : List Piece → Piece → Piece

@@ -225,7 +225,7 @@ pub fn step(ledger: Ledger) -> Stepped
     let front = foremost(ledger);
     let who = front.who;
     let clock = ledger.clock.next();
-    let feeds = serve_feeds(ledger.feeds, who).arrive(clock);
+    let feeds = serve_feeds(ledger.feeds, who).arrive(ledger.charge, clock);
     let table = serve_jobs(ledger.table, who);
     Stepped {
         ledger: ledger.moved(clock, feeds, table),

@@ -21,6 +21,10 @@ mostFeed = 40320
 abbrev pub mostRound : ℕ
 mostRound = 40320
 
+-- the highest charge for a change of work
+abbrev pub mostCharge : ℕ
+mostCharge = 16
+
 abbrev pub instant : ℕ → Instant
 instant n = record { 0 = n }
 
@@ -38,6 +42,10 @@ fromOne most l = leb 1 (l .0) && leb (l .0) most
 -- a work or a lead that a job may have
 abbrev pub jobLength : Length → Bool
 jobLength = fromOne mostJob
+
+-- what a live job may still owe under a charge: up to all its work and the charge
+abbrev pub owedLength : Length → Length → Bool
+owedLength charge = fromOne (mostJob + charge .0)
 
 -- a period or a work that a feed may have
 abbrev pub feedLength : Length → Bool
@@ -68,6 +76,10 @@ laterOf t u = cond (ltb (t .0) (u .0)) u t
 
 abbrev pub earlierOf : Instant → Instant → Instant
 earlierOf t u = cond (ltb (u .0) (t .0)) u t
+
+-- a length and so many ticks more
+abbrev pub sum : Length → Length → Length
+sum l more = ticks (l .0 + more .0)
 
 -- a length without so many ticks of it
 abbrev pub less : Length → Length → Length

@@ -3,7 +3,8 @@
 ghost use mathlib.Core.Path.{_≡_};
 ghost use Prim.Native.Nat.{_+_, _≤_, _<_, _^_};
 ghost use lib.Dec.{ltb, leb, eqb};
-ghost use Rattle.ticks.specs.Ticks.{lastInstant, mostJob, mostFeed, mostRound, within, fromOne, jobLength, feedLength};
+ghost use Rattle.ticks.specs.Ticks.{lastInstant, mostJob, mostFeed, mostRound, mostCharge, within, fromOne, jobLength, owedLength};
+ghost use Rattle.ticks.specs.Ticks.{feedLength, sum};
 ghost use Rattle.ticks.specs.Ticks.{plus, next, previous, ticksSince, remainder, laterOf, earlierOf, less, instant, ticks};
 
 // A moment that the clock can read; tick t lies between the instants t and t + 1.
@@ -118,6 +119,8 @@ impl Length {
     pub const PERIOD: Length = Length(40320);
     // The longest round.
     pub const ROUND: Length = Length(40320);
+    // The highest charge for a change of work.
+    pub const CHARGE: Length = Length(16);
 
     // As many ticks as a caller names.
     pub fn of(count: u32) -> Length
@@ -144,6 +147,12 @@ impl Length {
         Length::ROUND
     }
 
+    pub fn most_charge() -> Length
+        ensures { λ r. ⌜ r ≡ ticks mostCharge ⌝ }
+    {
+        Length::CHARGE
+    }
+
     // From 1 tick up to the most.
     fn from_one(self, most: Length) -> bool
         ensures { λ r. ⌜ r ≡ fromOne (most .0) self ⌝ }
@@ -161,6 +170,14 @@ impl Length {
         self.from_one(Length::JOB)
     }
 
+    // What a live job may still owe under a charge: up to all its work and the charge.
+    pub fn suits_owed(self, charge: Length) -> bool
+        requires { ⌜ charge .0 ≤ mostCharge ⌝ }
+        ensures { λ r. ⌜ r ≡ owedLength charge self ⌝ }
+    {
+        self.from_one(Length::JOB.and(charge))
+    }
+
     // A period or a work that a feed may have.
     pub fn suits_feed(self) -> bool
         ensures { λ r. ⌜ r ≡ feedLength self ⌝ }
@@ -175,6 +192,13 @@ impl Length {
         self.0 <= Length::ROUND.0
     }
 
+    // A charge that an opening may set.
+    pub fn suits_charge(self) -> bool
+        ensures { λ r. ⌜ r ≡ leb (self .0) mostCharge ⌝ }
+    {
+        self.0 <= Length::CHARGE.0
+    }
+
     pub fn is_none(self) -> bool
         ensures { λ r. ⌜ r ≡ eqb (self .0) 0 ⌝ }
     {
@@ -185,6 +209,14 @@ impl Length {
         ensures { λ r. ⌜ r ≡ ltb (than .0) (self .0) ⌝ }
     {
         than.0 < self.0
+    }
+
+    // So many ticks more.
+    pub fn and(self, more: Length) -> Length
+        requires { ⌜ self .0 + more .0 < 2 ^ 64 ⌝ }
+        ensures { λ r. ⌜ r ≡ sum self more ⌝ }
+    {
+        Length(self.0 + more.0)
     }
 
     // What is left of it without so many ticks.

@@ -16,7 +16,7 @@ use Rattle.words.specs.declared.Line.{Line}
 use Rattle.words.specs.Numbers.{isDigit, numberOf, smallOf}
 use Rattle.words.specs.Fields.{space, same, foundIn, fieldsOf}
 use Rattle.words.specs.Text.{spelt}
-use Rattle.words.specs.Lines.{wordIn, wordOf, oneOf, allThree, threeOf, saidOf, meaningOf, lineOf}
+use Rattle.words.specs.Lines.{wordIn, wordOf, oneOf, allThree, threeOf, going, goOf, saidOf, meaningOf, lineOf}
 use Rattle.words.proofs.Fields.{Cut, found-at, cut-at, cut-nowhere, fields-some}
 use Rattle.words.proofs.Numbers.{digits-other, number-other}
 
@@ -99,9 +99,27 @@ three-of-two s j p e =
     ∙ three-two _ _ _
     ∙ third-missing (smallOf (numberOf (take j s))) (smallOf (numberOf (drop (j + 1) s))))
 
+-- an opening's two fields, cut at the space at k
+pub go-cut : (s : List ℕ) (k : ℕ) → Cut s 0 k
+    → goOf (fieldsOf s) ≡ going (numberOf (take k s)) (smallOf (numberOf (take (length s - (k + 1)) (drop (k + 1) s))))
+unfolding goOf
+go-cut s k p =
+    ap goOf (fields-cut s k p)
+    ∙ ap (λ n. going (numberOf (take k s)) (smallOf n)) (one-number (drop (k + 1) s) ∙ ap numberOf (sym (rest-part s (k + 1))))
+
+charge-missing : (n : Number) → going n (smallOf (oneOf [])) ≡ Line.Bad
+unfolding smallOf oneOf
+charge-missing (Number.Is n) = refl
+charge-missing Number.Not = refl
+
+-- one field opens nothing
+pub go-of-one : (s : List ℕ) → foundIn space 0 s ≡ Found.Nothing → Line.Bad ≡ goOf (fieldsOf s)
+unfolding goOf
+go-of-one s e = sym (ap goOf (cut-nowhere s 0 e) ∙ charge-missing (numberOf s))
+
 -- a word alone says nothing
 said-alone : (w : Word) → saidOf w [] ≡ Line.Bad
-unfolding saidOf threeOf oneOf smallOf
+unfolding saidOf threeOf goOf oneOf smallOf
 said-alone Word.Feed = refl
 said-alone Word.Go = refl
 said-alone Word.Ask = refl

@@ -57,11 +57,18 @@ threeOf (f ∷ g ∷ fs) = allThree (smallOf (numberOf f)) (smallOf (numberOf g)
 abbrev pub runOf : ℕ → Line
 runOf n = cond (leb n mostRun) (Line.Run n) Line.Bad
 
--- a line of one number, bad without it
-abbrev pub withInstant : (ℕ → Line) → Number → Line
-withInstant f (Number.Is n) = f n
-withInstant f Number.Not = Line.Bad
+-- an opening by its instant and its charge, bad without either
+abbrev pub going : Number → Small → Line
+going (Number.Is start) (Small.Is charge) = Line.Go start charge
+going (Number.Is start) Small.Not = Line.Bad
+going Number.Not c = Line.Bad
 
+-- what two fields say of an opening
+unfoldable pub goOf : List (List ℕ) → Line
+goOf [] = Line.Bad
+goOf (f ∷ fs) = going (numberOf f) (smallOf (oneOf fs))
+
+-- a line of one number, bad without it
 abbrev pub withOne : (ℕ → Line) → Small → Line
 withOne f (Small.Is n) = f n
 withOne f Small.Not = Line.Bad
@@ -73,7 +80,7 @@ withThree f Three.Not = Line.Bad
 -- what a word says with the fields after it
 unfoldable pub saidOf : Word → List (List ℕ) → Line
 saidOf Word.Feed fs = withThree Line.Feed (threeOf fs)
-saidOf Word.Go fs = withInstant Line.Go (oneOf fs)
+saidOf Word.Go fs = goOf fs
 saidOf Word.Ask fs = withThree Line.Ask (threeOf fs)
 saidOf Word.End fs = withOne Line.End (smallOf (oneOf fs))
 saidOf Word.Rest fs = withOne Line.Rest (smallOf (oneOf fs))

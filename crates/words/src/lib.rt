@@ -3,7 +3,7 @@
 ghost use mathlib.Core.Path.{_≡_};
 ghost use Rattle.words.specs.Numbers.{isDigit, isShaped, numberOf, smallOf};
 ghost use Rattle.words.specs.Fields.{same, foundIn, lineEnd, fieldsOf};
-ghost use Rattle.words.specs.Lines.{wordOf, allThree, threeOf, runOf, saidOf, lineOf};
+ghost use Rattle.words.specs.Lines.{wordOf, allThree, threeOf, going, goOf, runOf, saidOf, lineOf};
 ghost use lib.ListN.{drop};
 
 pub mod put;
@@ -46,7 +46,7 @@ enum Word {
 // What a line says.
 pub enum Line {
     Feed(u32, u32, u32),
-    Go(u64),
+    Go(u64, u32),
     Ask(u32, u32, u32),
     End(u32),
     Rest(u32),
@@ -186,6 +186,29 @@ fn read_three(s: &[u8]) -> Three
     )
 }
 
+// An opening by its instant and its charge.
+fn going(start: Number, charge: Small) -> Line
+    ensures { λ r. ⌜ r ≡ going start charge ⌝ }
+{
+    let Number::Is(at) = start else {
+        return Line::Bad;
+    };
+    let Small::Is(ticks) = charge else {
+        return Line::Bad;
+    };
+    Line::Go(at, ticks)
+}
+
+fn read_go(s: &[u8]) -> Line
+    ensures { λ r. ⌜ r ≡ goOf (fieldsOf (now (s .entry))) ⌝ }
+{
+    let Found::At(end) = find(s, 0, b' ') else {
+        return Line::Bad;
+    };
+    let last = end + 1;
+    going(read_number(&s[..end]), read_small(&s[last..]))
+}
+
 fn is_word(s: &[u8], word: &[u8]) -> bool
     ensures { λ r. ⌜ r ≡ same (now (s .entry)) (now (word .entry)) ⌝ }
 {
@@ -235,10 +258,7 @@ fn read_fields(word: Word, s: &[u8]) -> Line
             Three::Are(a, b, c) => Line::Feed(a, b, c),
             Three::Not => Line::Bad,
         },
-        Word::Go => match read_number(s) {
-            Number::Is(n) => Line::Go(n),
-            Number::Not => Line::Bad,
-        },
+        Word::Go => read_go(s),
         Word::Ask => match read_three(s) {
             Three::Are(a, b, c) => Line::Ask(a, b, c),
             Three::Not => Line::Bad,

@@ -50,7 +50,7 @@ after c =
 reason-at-requires : tie.Need-reason-at-requires
 reason-at-requires c κs =
     let start = c .before .before .before .before in
-    (order start, start .pre .job .owed .1, tells c .reach, omega (arith, after c))
+    (order start, omega (arith, start .pre .job .owed .1, order start .charge), tells c .reach, omega (arith, after c))
 
 returns : tie.Need-returns
 returns c =

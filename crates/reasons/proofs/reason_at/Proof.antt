@@ -6,13 +6,14 @@ use lib.IntN.{pos, _-ℤ_}
 use mir.Syntax.{w64}
 use mir.ValLaws.{toZ-ofZ}
 use borrow.Author.Needs.{needs}
-use Rattle.ticks.specs.Ticks.{mostJob, ticks}
+use Rattle.ticks.specs.Ticks.{ticks}
 use Rattle.edf.specs.Book.{Book}
 use Rattle.edf.specs.Owed.{owedBy}
 use Rattle.edf.specs.Margin.{margin}
 use Rattle.edf.specs.Calls.{taking}
 use Rattle.edf.proofs.Demand.{byThen-le}
 use Rattle.ledger.specs.Books.{bookOf, bookJob}
+use Rattle.room.specs.Owed.{mostOwed}
 use Rattle.room.proofs.Owed.{jobs-modest, feeds-ordered}
 use Rattle.reasons.proofs.Parts.{parts-make-owed}
 use Rattle.reasons.proofs.reason_at.Statement.{statement}
@@ -22,10 +23,10 @@ jobs-owe-requires : tie.Need-jobs-owe-requires
 jobs-owe-requires c κs = let p = c .before .pre in (p .0 .tidyTable .few, jobs-modest _ (p .0))
 
 feeds-owe-requires : tie.Need-feeds-owe-requires
-feeds-owe-requires c κs = let p = c .before .before .pre in (p .0 .tidyFeeds .few, feeds-ordered _ (p .0), p .2)
+feeds-owe-requires c κs = let p = c .before .before .pre in (p .0 .tidyFeeds .few, feeds-ordered _ (p .0), p .0 .charge, p .2)
 
 -- the job owes no more than a job may
-modest : (c : tie.After-job-owes) → c .job-owes .result ≤ mostJob
+modest : (c : tie.After-job-owes) → c .job-owes .result ≤ mostOwed
 modest c =
     let start = c .before .before .before .before in
     let job = start .args .job in

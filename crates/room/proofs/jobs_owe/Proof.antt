@@ -4,17 +4,16 @@ use Prim.Native.Nat.{_+_, _*_, _-_, _≤_}
 use native.Mathlib.Omega.{arith}
 use borrow.Author.Needs.{needs}
 use lib.ListN.{length, getD, drop}
-use Rattle.ticks.specs.Ticks.{mostJob}
 use Rattle.lists.specs.Lists.{total}
 use Rattle.lists.proofs.Places.{length-mapped, next-live, no-more-live, each-live}
 use Rattle.jobs.specs.Jobs.{live, noJob}
 use Rattle.edf.proofs.Demand.{byThen-le}
-use Rattle.room.specs.Owed.{jobOwes, Modest}
+use Rattle.room.specs.Owed.{mostOwed, jobOwes, Modest}
 use Rattle.room.proofs.jobs_owe.Statement.{statement}
 use Rattle.room.proofs.jobs_owe.Tie as tie
 
 abbrev Inv-loop : tie.InvT-loop
-Inv-loop by table count sum₀ i₀ sum i = (i ≤ count) × (sum ≤ i * mostJob) × (total (jobOwes (by .0)) (live table) ≡ sum + total (jobOwes (by .0)) (drop i (live table)))
+Inv-loop by table count sum₀ i₀ sum i = (i ≤ count) × (sum ≤ i * mostOwed) × (total (jobOwes (by .0)) (live table) ≡ sum + total (jobOwes (by .0)) (drop i (live table)))
 
 abbrev μ-loop : tie.MeasureT-loop
 μ-loop by table count sum₀ i₀ sum i = count - i
@@ -25,7 +24,7 @@ few c =
     omega arith
 
 -- the next job owes no more than a job may
-small : (c : tie.In-loop Inv-loop μ-loop) → jobOwes (c .before .before .args .by .0) (getD (c .before .before .args .t1 .jobs) (c .before .loop .i) noJob) ≤ mostJob
+small : (c : tie.In-loop Inv-loop μ-loop) → jobOwes (c .before .before .args .by .0) (getD (c .before .before .args .t1 .jobs) (c .before .loop .i) noJob) ≤ mostOwed
 small c =
     let table = c .before .before .args .t1 in
     let job = getD (table .jobs) (c .before .loop .i) noJob in

@@ -16,7 +16,7 @@ jobs-owe-requires c κs = (c .pre .0 .tidyTable .few, jobs-modest _ (c .pre .0))
 feeds-owe-requires : tie.Need-feeds-owe-requires
 feeds-owe-requires c κs =
     let p = c .before .pre in
-    (p .0 .tidyFeeds .few, feeds-ordered _ (p .0), record { inside = p .1 .inside; near = omega (arith, p .1 .near) })
+    (p .0 .tidyFeeds .few, feeds-ordered _ (p .0), p .0 .charge, record { inside = p .1 .inside; near = omega (arith, p .1 .near) })
 
 returns : tie.Need-returns
 returns c =

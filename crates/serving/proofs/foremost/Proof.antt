@@ -20,7 +20,7 @@ returns c =
     let l = c .before .before .args .ledger in
     c .foremost-job .ensures
     ∙ ap (foremostOver (jobFronts (live (l .table)))) (c .before .foremost-feed .ensures)
-    ∙ foremost-is-runner (l .clock) (inUse (l .feeds)) (live (l .table))
+    ∙ foremost-is-runner (l .charge) (l .clock) (inUse (l .feeds)) (live (l .table))
 
 pub foremost-spec : {M : Type 1} → statement M
 foremost-spec = tie.close (tie.spec foremost-feed-requires foremost-job-requires returns)

@@ -42,14 +42,14 @@ serve-feeds-requires : tie.Need-serve-feeds-requires
 serve-feeds-requires c κs =
     let front = c .before in
     let l = start front .args .ledger in
-    (start front .pre .tidyFeeds, runner-owed (front .foremost .result .who) (l .clock) (inUse (l .feeds)) (live (l .table)) (runs front))
+    (start front .pre .tidyFeeds, runner-owed (front .foremost .result .who) (l .charge) (l .clock) (inUse (l .feeds)) (live (l .table)) (runs front))
 
 arrive-requires : tie.Need-arrive-requires
 arrive-requires c κs =
     let front = c .before .before in
     let l = start front .args .ledger in
     let ready = given-feeds l (start front .pre) (front .foremost .result .who) in
-    (subst Tidy (sym (c .serve-feeds .ensures)) (ready .0), subst (λ s. Each FeedIn (inUse s)) (sym (c .serve-feeds .ensures)) (ready .1), omega (arith, start front .pre .clock, ap (λ t. t .0) (c .before .next .ensures)))
+    (subst Tidy (sym (c .serve-feeds .ensures)) (ready .0), subst (λ s. Each FeedIn (inUse s)) (sym (c .serve-feeds .ensures)) (ready .1), start front .pre .charge, omega (arith, start front .pre .clock, ap (λ t. t .0) (c .before .next .ensures)))
 
 serve-jobs-requires : tie.Need-serve-jobs-requires
 serve-jobs-requires c κs =
@@ -64,7 +64,7 @@ written c =
     let gs = servedFeeds (front .foremost .result .who) (inUse (l .feeds)) in
     let clock = c .before .before .before .before .next .ensures in
     let served = ap inUse (c .before .before .before .serve-feeds .ensures) ∙ in-use-of gs in
-    let feeds = c .before .before .arrive .ensures ∙ (λ i. feedsOf (map (arrived (clock i)) (served i))) in
+    let feeds = c .before .before .arrive .ensures ∙ (λ i. feedsOf (map (arrived (l .charge) (clock i)) (served i))) in
     c .moved .ensures ∙ (λ i. moved l (clock i) (feeds i) (c .before .serve-jobs .ensures i))
 
 returns-2 : tie.Need-returns-2

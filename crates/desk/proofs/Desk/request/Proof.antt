@@ -5,11 +5,11 @@ use native.Mathlib.Omega.{arith}
 use borrow.Author.Needs.{needs}
 use borrow.Author.Tests.{not-true, not-false}
 use Rattle.lists.proofs.Places.{length-mapped}
-use Rattle.ticks.specs.Ticks.{ticks, plus}
+use Rattle.ticks.specs.Ticks.{ticks, plus, sum}
 use Rattle.jobs.specs.Jobs.{noJob, job}
 use Rattle.answers.specs.Answers.{firstOf, isYes}
 use Rattle.answers.proofs.Answers.{is-yes, yes-first, on-yes, on-no}
-use Rattle.ledger.specs.State.{Sized}
+use Rattle.ledger.specs.State.{Sized, InOrder}
 use Rattle.ledger.proofs.InOrder.{in-order}
 use Rattle.desk.specs.Asking.{askLines, requested, requestOf}
 use Rattle.desk.proofs.Desk.request.Statement.{statement}
@@ -38,20 +38,25 @@ returns c =
 yes : (c : tie.Else1) → isYes (firstOf (askLines (c .before .before .before .before .before .args .self) (c .before .before .before .before .before .args .number) (ticks (c .before .before .before .before .before .args .work)) (ticks (c .before .before .before .before .before .args .lead)))) ≡ true
 yes c = ap isYes (sym (says (c .before .before))) ∙ sym (c .before .is-yes .ensures) ∙ not-false _ (c .if1 .left)
 
+-- no line stopped it, so the state is in order
+order : (c : tie.Else1) → InOrder (c .before .before .before .before .before .args .self .ledger)
+order c = in-order _ (sized (c .before .before .before .before .before)) (not-false _ (yes-first _ _ (is-yes _ (yes c)) .0))
+
+and-requires : tie.Need-and-requires
+and-requires c κs = omega (arith, order c .charge, ap (λ l. l .0) (c .before .before .before .before .of .ensures))
+
 plus-requires : tie.Need-plus-requires
-plus-requires c κs =
-    let start = c .before .before .before .before .before in
-    let order = in-order _ (sized start) (not-false _ (yes-first _ _ (is-yes _ (yes c)) .0)) in
-    omega (arith, order .clock, ap (λ l. l .0) (c .before .before .before .of2 .ensures))
+plus-requires c κs = omega (arith, order (c .before) .clock, ap (λ l. l .0) (c .before .before .before .before .of2 .ensures))
 
 returns-2 : tie.Need-returns-2
 unfolding requestOf
 returns-2 c =
-    let k = c .before .before in
+    let k = c .before .before .before in
     let s = k .before .before in
     let a = s .before .before .before .args in
-    let made = c .of3 .ensures
-    ∙ (λ i. job (a .number) (s .before .before .of .ensures i) ((c .before .plus .ensures ∙ ap (plus (a .self .ledger .clock)) (s .before .of2 .ensures)) i)) in
+    let owed = c .before .before .and .ensures ∙ ap (λ l. sum l (a .self .ledger .charge)) (s .before .before .of .ensures) in
+    let due = c .before .plus .ensures ∙ ap (plus (a .self .ledger .clock)) (s .before .of2 .ensures) in
+    let made = c .of3 .ensures ∙ (λ i. job (a .number) (owed i) (due i)) in
     λ i. record {
       verdict = says s i;
       job = (made ∙ sym (on-yes (firstOf (askLines (a .self) (a .number) (ticks (a .work)) (ticks (a .lead)))) (requested (a .self) (a .number) (a .work) (a .lead)) noJob (yes k))) i;
@@ -66,6 +71,7 @@ request-spec =
     (λ c κs. omega (arith, ap (λ l. l .0) (c .of2 .ensures)))
     (λ c κs. search needs)
     returns
+    and-requires
     plus-requires
     (λ c κs. search needs)
     returns-2)

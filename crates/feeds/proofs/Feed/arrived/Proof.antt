@@ -5,7 +5,8 @@ use lib.Dec.{eqb}
 use borrow.Author.Needs.{needs}
 use Rattle.feeds.specs.Feeds.{owing}
 use Rattle.feeds.specs.Pieces.{arrived}
-use Rattle.plans.specs.Plans.{since}
+use Rattle.ticks.specs.Ticks.{ticks}
+use Rattle.plans.specs.Plans.{since, charged}
 use Rattle.feeds.proofs.Feed.arrived.Statement.{statement}
 use Rattle.feeds.proofs.Feed.arrived.Tie as tie
 
@@ -18,14 +19,18 @@ comes c = c .is-none .ensures ∙ ap (λ l. eqb (l .0) 0) (c .before .since .ens
 returns : tie.Need-returns
 unfolding arrived
 returns c =
-    let f = c .before .before .before .before .args .self in
-    λ i. owing (cond ((sym (c .before .if1 .taken) ∙ comes (c .before .before)) i) (f .plan .work) (f .owes)) f
+    let start = c .before .before .before .before in
+    let f = start .args .self in
+    let n = charged (start .args .charge) (f .plan) in
+    (λ i. owing (c .charged .ensures i) f)
+    ∙ (λ i. owing (cond ((sym (c .before .if1 .taken) ∙ comes (c .before .before)) i) (ticks n) (f .owes)) f)
 
 returns-2 : tie.Need-returns-2
 unfolding arrived
 returns-2 c =
-    let f = c .before .before .before .args .self in
-    λ i. owing (cond ((sym (c .if1 .left) ∙ comes (c .before)) i) (f .plan .work) (f .owes)) f
+    let start = c .before .before .before in
+    let f = start .args .self in
+    λ i. owing (cond ((sym (c .if1 .left) ∙ comes (c .before)) i) (ticks (charged (start .args .charge) (f .plan))) (f .owes)) f
 
 pub arrived-spec : {M : Type 1} → statement M
-arrived-spec = tie.close (tie.spec (λ c κs. search needs) (λ c κs. search needs) returns returns-2)
+arrived-spec = tie.close (tie.spec (λ c κs. search needs) (λ c κs. search needs) (λ c κs. search needs) returns returns-2)

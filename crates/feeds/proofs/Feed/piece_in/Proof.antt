@@ -7,27 +7,35 @@ use lib.Dec.{leb, ltb, eqb}
 use borrow.Author.Needs.{needs}
 use borrow.Author.Tests.{lt-leb, le-leb, ltb-true, ltb-false}
 use Rattle.lists.proofs.Tests.{passes, fails, last}
+use Rattle.plans.specs.Plans.{charged}
 use Rattle.feeds.specs.Pieces.{pieceIn}
 use Rattle.feeds.proofs.Feed.piece_in.Statement.{statement}
 use Rattle.feeds.proofs.Feed.piece_in.Tie as tie
 
--- what is owed is not more than the work
+-- whether more is owed than the charged work, as the code told it
+more :
+    (c : tie.After-is-longer) →
+    c .is-longer .result
+    ≡ ltb (charged (c .before .before .args .charge) (c .before .before .args .self .plan)) (c .before .before .args .self .owes .0)
+more c = c .is-longer .ensures ∙ ap (λ l. ltb (l .0) (c .before .before .args .self .owes .0)) (c .before .charged .ensures)
+
+-- what is owed is not more than the charged work
 owes :
     (c : tie.Else1) →
-    leb (c .before .before .args .self .owes .0) (c .before .before .args .self .plan .work .0) ≡ true
+    leb (c .before .before .before .args .self .owes .0) (charged (c .before .before .before .args .charge) (c .before .before .before .args .self .plan)) ≡ true
 owes c =
-    let f = c .before .before .args .self in
-    let most = ltb-false (f .plan .work .0) (f .owes .0) (sym (c .before .is-longer .ensures) ∙ c .if1 .left) in
-    le-leb (f .owes .0) (f .plan .work .0) most
+    let a = c .before .before .before .args in
+    let most = charged (a .charge) (a .self .plan) in
+    le-leb (a .self .owes .0) most (ltb-false most (a .self .owes .0) (sym (more (c .before)) ∙ c .if1 .left))
 
 -- whether the clock is below the offset, as the code told it
 early :
     (c : tie.After-is-after) →
     c .is-after .result
-    ≡ ltb (c .before .before .before .before .args .clock .0) (c .before .before .before .before .args .self .plan .offset .0)
+    ≡ ltb (c .before .before .before .before .before .args .clock .0) (c .before .before .before .before .before .args .self .plan .offset .0)
 early c =
-    let clock = c .before .before .before .before .args .clock .0 in
-    let offset = c .before .before .before .before .args .self .plan .offset .0 in
+    let clock = c .before .before .before .before .before .args .clock .0 in
+    let offset = c .before .before .before .before .before .args .self .plan .offset .0 in
     let sum : c .before .plus .result .0 ≡ 0 + offset = ap (λ t. t .0) (c .before .plus .ensures) in
     let first : c .before .plus .result .0 ≡ offset = omega arith in
     c .is-after .ensures ∙ ap (ltb clock) first
@@ -35,14 +43,14 @@ early c =
 returns : tie.Need-returns
 unfolding pieceIn
 returns c =
-    let f = c .before .before .args .self in
-    let more = ltb-true (f .plan .work .0) (f .owes .0) (sym (c .before .is-longer .ensures) ∙ c .if1 .taken) in
-    fails _ _ (lt-leb (f .owes .0) (f .plan .work .0) more)
+    let a = c .before .before .before .args in
+    let most = charged (a .charge) (a .self .plan) in
+    fails _ _ (lt-leb (a .self .owes .0) most (ltb-true most (a .self .owes .0) (sym (more (c .before)) ∙ c .if1 .taken)))
 
 returns-2 : tie.Need-returns-2
 unfolding pieceIn
 returns-2 c =
-    let f = c .before .before .before .before .before .before .args .self in
+    let f = c .before .before .before .before .before .before .before .args .self in
     let below = ltb-true _ (f .plan .offset .0) (sym (early (c .before .before)) ∙ c .before .if2 .taken) in
     passes _ _ _ (owes (c .before .before .before .before))
     (last _ _ (c .is-none .ensures ∙ sym (ap (λ b. b || eqb (f .owes .0) 0) (lt-leb (f .plan .offset .0) _ below))))
@@ -50,7 +58,7 @@ returns-2 c =
 returns-3 : tie.Need-returns-3
 unfolding pieceIn
 returns-3 c =
-    let f = c .before .before .before .before .before .args .self in
+    let f = c .before .before .before .before .before .before .args .self in
     let reached = ltb-false _ (f .plan .offset .0) (sym (early (c .before)) ∙ c .if2 .left) in
     passes _ _ _ (owes (c .before .before .before))
     (last _ _ (sym (ap (λ b. b || eqb (f .owes .0) 0) (le-leb (f .plan .offset .0) _ reached))))
@@ -59,6 +67,7 @@ pub piece-in-spec : {M : Type 1} → statement M
 piece-in-spec =
     tie.close
     (tie.spec
+    (λ c κs. (c .pre .0 .work .1, c .pre .1))
     (λ c κs. search needs)
     returns
     (λ c κs. search needs)

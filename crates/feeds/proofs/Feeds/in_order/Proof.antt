@@ -6,7 +6,7 @@ use borrow.Author.Needs.{needs}
 use borrow.Author.Tests.{lt-leb, le-leb, not-true, not-false}
 use Rattle.lists.proofs.Tests.{passes, fails, last}
 use Rattle.answers.specs.Answers.{isYes, passes as allPass}
-use Rattle.answers.proofs.Answers.{passes-is}
+use Rattle.answers.proofs.Answers.{passes-is, passes-yes, yes-first}
 use Rattle.feeds.specs.Feeds.{mostFeeds, inUse}
 use Rattle.feeds.specs.Lines.{feedLines, feedsPass}
 use Rattle.feeds.proofs.Feeds.in_order.Statement.{statement}
@@ -16,13 +16,13 @@ few : (c : tie.Else1) → leb (c .before .before .args .self .count) mostFeeds �
 few c = le-leb _ _ (c .if1 .left)
 
 -- whether lines 2, 9 and 10 let the feeds pass, as the code told it
-sound : (c : tie.After-is-yes) → c .is-yes .result ≡ allPass (feedLines (inUse (c .before .before .before .before .args .self)))
+sound : (c : tie.After-is-yes) → c .is-yes .result ≡ allPass (feedLines (c .before .before .before .before .args .charge) (inUse (c .before .before .before .before .args .self)))
 sound c =
-    let lines = feedLines (inUse (c .before .before .before .before .args .self)) in
+    let lines = feedLines (c .before .before .before .before .args .charge) (inUse (c .before .before .before .before .args .self)) in
     c .is-yes .ensures ∙ ap isYes (c .before .sound .ensures) ∙ sym (passes-is lines)
 
 -- they do
-pass : (c : tie.Else2) → allPass (feedLines (inUse (c .before .before .before .before .before .args .self))) ≡ true
+pass : (c : tie.Else2) → allPass (feedLines (c .before .before .before .before .before .args .charge) (inUse (c .before .before .before .before .before .args .self))) ≡ true
 pass c = sym (sound (c .before)) ∙ not-false _ (c .if2 .left)
 
 returns : tie.Need-returns
@@ -50,6 +50,14 @@ returns-4 c =
     (passes _ _ _ (sym (c .before .before .rest-unused .ensures) ∙ not-false _ (c .before .if3 .left))
     (last _ _ (c .pieces-in .ensures))))
 
+-- each feed is within its limits, or line 2 had stopped them
+pieces-in-requires : tie.Need-pieces-in-requires
+pieces-in-requires c κs =
+    let k = c .before .before in
+    let start = k .before .before .before .before .before in
+    let lines = feedLines (start .args .charge) (inUse (start .args .self)) in
+    (k .before .before .before .if1 .left, not-false _ (yes-first _ _ (passes-yes lines (pass k)) .0), start .pre)
+
 pub in-order-spec : {M : Type 1} → statement M
 in-order-spec =
     tie.close
@@ -60,5 +68,5 @@ in-order-spec =
     returns-2
     (λ c κs. search needs)
     returns-3
-    (λ c κs. search needs)
+    pieces-in-requires
     returns-4)

@@ -6,7 +6,7 @@ use borrow.Author.Needs.{needs}
 use lib.ListN.{length, getD, drop}
 use Rattle.ticks.specs.Ticks.{mostFeed, ticks}
 use Rattle.lists.proofs.Places.{length-mapped, next-live, no-more-live}
-use Rattle.plans.specs.Plans.{share}
+use Rattle.plans.specs.Plans.{mostPiece, share}
 use Rattle.feeds.specs.Feeds.{FeedIn, inUse, noFeed}
 use Rattle.feeds.specs.Round.{load}
 use Rattle.feeds.proofs.Limits.{feed-in-use}
@@ -14,11 +14,11 @@ use Rattle.feeds.proofs.Feeds.load.Statement.{statement}
 use Rattle.feeds.proofs.Feeds.load.Tie as tie
 
 abbrev Inv-loop : tie.InvT-loop
-Inv-loop round self count sum₀ i₀ sum i =
-    (i ≤ count) × (sum ≤ i * (mostFeed * mostFeed)) × (load (round .0) (inUse self) ≡ sum + load (round .0) (drop i (inUse self)))
+Inv-loop charge round self count sum₀ i₀ sum i =
+    (i ≤ count) × (sum ≤ i * (mostPiece * mostFeed)) × (load charge (round .0) (inUse self) ≡ sum + load charge (round .0) (drop i (inUse self)))
 
 abbrev μ-loop : tie.MeasureT-loop
-μ-loop round self count sum₀ i₀ sum i = count - i
+μ-loop charge round self count sum₀ i₀ sum i = count - i
 
 few : (c : tie.Start Inv-loop μ-loop) → c .args .t1 .count ≤ length (c .args .t1 .feeds)
 few c =
@@ -31,7 +31,7 @@ here :
 here c = feed-in-use (c .before .before .args .t1) (c .before .loop .i) (c .before .before .pre .1) (c .loop-test .taken) (few (c .before .before))
 
 share-requires : tie.Need-share-requires Inv-loop μ-loop
-share-requires c κs = record { period = here (c .before) .period .0; work = here (c .before) .work .1; round = c .before .before .before .pre .2 }
+share-requires c κs = record { period = here (c .before) .period .0; work = here (c .before) .work .1; round = c .before .before .before .pre .3; low = c .before .before .before .pre .2 }
 
 add-sum : tie.Need-add-sum Inv-loop μ-loop
 add-sum c = omega (arith, c .before .before .before .loop .inv, c .share .ensures .1, c .before .before .before .before .pre .0)
@@ -39,19 +39,21 @@ add-sum c = omega (arith, c .before .before .before .loop .inv, c .share .ensure
 loop-again : tie.Need-loop-again Inv-loop μ-loop
 loop-again c =
     let self = c .before .before .before .before .args .t1 in
+    let a = c .before .before .before .before .args .charge in
     let R = c .before .before .before .before .args .round .0 in
     let i = c .before .before .before .loop .i in
-    let next : load R (drop i (inUse self)) ≡ share R (getD (self .feeds) i noFeed .plan) + load R (drop (i + 1) (inUse self)) =
-    ap (load R) (next-live (self .feeds) (self .count) i noFeed (c .before .before .loop-test .taken) (few (c .before .before .before .before))) in
+    let next : load a R (drop i (inUse self)) ≡ share a R (getD (self .feeds) i noFeed .plan) + load a R (drop (i + 1) (inUse self)) =
+    ap (load a R) (next-live (self .feeds) (self .count) i noFeed (c .before .before .loop-test .taken) (few (c .before .before .before .before))) in
     omega (arith, c .before .before .before .loop .inv, c .share .ensures, next)
 
 returns : tie.Need-returns Inv-loop μ-loop
 returns c =
     let self = c .before .before .args .t1 in
+    let a = c .before .before .args .charge in
     let R = c .before .before .args .round .0 in
-    let none : load R (drop (c .before .loop .i) (inUse self)) ≡ 0 =
-    ap (load R) (no-more-live (self .feeds) (self .count) (c .before .loop .i) (c .loop-test .left) (few (c .before .before))) in
-    let all : c .before .loop .sum ≡ load R (inUse self) = omega (arith, c .before .loop .inv, none) in
+    let none : load a R (drop (c .before .loop .i) (inUse self)) ≡ 0 =
+    ap (load a R) (no-more-live (self .feeds) (self .count) (c .before .loop .i) (c .loop-test .left) (few (c .before .before))) in
+    let all : c .before .loop .sum ≡ load a R (inUse self) = omega (arith, c .before .loop .inv, none) in
     ap ticks all
 
 pub load-spec : {M : Type 1} → statement M

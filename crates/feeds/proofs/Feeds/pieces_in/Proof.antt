@@ -9,14 +9,22 @@ use Rattle.lists.specs.Lists.{every}
 use Rattle.lists.proofs.Places.{length-mapped, next-live, no-more-live, every-fails, every-goes-on, every-passes}
 use Rattle.feeds.specs.Feeds.{inUse, noFeed}
 use Rattle.feeds.specs.Pieces.{pieceIn}
+use Rattle.feeds.proofs.Limits.{feed-in-use}
 use Rattle.feeds.proofs.Feeds.pieces_in.Statement.{statement}
 use Rattle.feeds.proofs.Feeds.pieces_in.Tie as tie
 
 abbrev Inv-loop : tie.InvT-loop
-Inv-loop clock self count i₀ i = (i ≤ count) × (every (pieceIn clock) (inUse self) ≡ every (pieceIn clock) (drop i (inUse self)))
+Inv-loop charge clock self count i₀ i = (i ≤ count) × (every (pieceIn charge clock) (inUse self) ≡ every (pieceIn charge clock) (drop i (inUse self)))
 
 abbrev μ-loop : tie.MeasureT-loop
-μ-loop clock self count i₀ i = count - i
+μ-loop charge clock self count i₀ i = count - i
+
+piece-in-requires : tie.Need-piece-in-requires Inv-loop μ-loop
+piece-in-requires c κs =
+    let start = c .before .before .before in
+    let s = start .args .t1 in
+    let long : length (s .feeds) ≡ 16 = search (needs, length-mapped) in
+    (feed-in-use s (c .before .before .loop .i) (start .pre .1) (c .before .loop-test .taken) (omega (arith, start .pre .0)), start .pre .2)
 
 returns : tie.Need-returns Inv-loop μ-loop
 returns c =
@@ -51,7 +59,7 @@ pieces-in-spec =
     (λ c. (omega arith, refl))
     (λ c. search needs)
     (λ c. search needs)
-    (λ c κs. search needs)
+    piece-in-requires
     returns
     (λ c. search needs)
     (λ c. search needs)

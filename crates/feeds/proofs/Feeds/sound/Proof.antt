@@ -31,42 +31,44 @@ too-much :
     (c : tie.After-is-longer) →
     c .is-longer .result
     ≡ ltb (roundOf (periods (inUse (c .before .before .before .before .before .before .before .args .self))))
-    (load (roundOf (periods (inUse (c .before .before .before .before .before .before .before .args .self))))
+    (load (c .before .before .before .before .before .before .before .args .charge) (roundOf (periods (inUse (c .before .before .before .before .before .before .before .args .self))))
     (inUse (c .before .before .before .before .before .before .before .args .self)))
 too-much c =
+    let charge = c .before .before .before .before .before .before .before .args .charge in
     let fs = inUse (c .before .before .before .before .before .before .before .args .self) in
     let round = c .before .before .before .before .round .ensures in
     c .is-longer .ensures
     ∙ ap (λ l. ltb (c .before .before .before .before .round .result .0) (l .0)) (c .before .load .ensures)
-    ∙ ap (λ l. ltb (l .0) (load (l .0) fs)) round
+    ∙ ap (λ l. ltb (l .0) (load charge (l .0) fs)) round
 
 returns : tie.Need-returns
-returns c = sym (feeds-outside _ (sym (c .before .all-within .ensures) ∙ not-true _ (c .if1 .taken)))
+returns c = sym (feeds-outside _ _ (sym (c .before .all-within .ensures) ∙ not-true _ (c .if1 .taken)))
 
 round-requires : tie.Need-round-requires
-round-requires c κs = (c .before .before .pre, within c)
+round-requires c κs = (c .before .before .pre .0, within c)
 
 returns-2 : tie.Need-returns-2
 returns-2 c =
-    sym (feeds-too-long _ (within (c .before .before .before)) (sym (the-test (c .before)) ∙ not-true _ (c .if2 .taken)))
+    sym (feeds-too-long _ _ (within (c .before .before .before)) (sym (the-test (c .before)) ∙ not-true _ (c .if2 .taken)))
 
 load-requires : tie.Need-load-requires
 load-requires c κs =
     let test = leb-true _ _ (sym (c .before .suits-round .ensures) ∙ not-false _ (c .if2 .left)) in
-    (c .before .before .before .before .before .pre, within (c .before .before .before), test)
+    let pre = c .before .before .before .before .before .pre in
+    (pre .0, within (c .before .before .before), pre .1, test)
 
 returns-3 : tie.Need-returns-3
 returns-3 c =
     let s = c .before .before .before in
     sym
-    (feeds-too-much _ (within (s .before .before .before)) (short s)
+    (feeds-too-much _ _ (within (s .before .before .before)) (short s)
     (ltb-true _ _ (sym (too-much (c .before)) ∙ c .if3 .taken)))
 
 returns-4 : tie.Need-returns-4
 returns-4 c =
     let s = c .before .before .before in
     sym
-    (feeds-yes _ (within (s .before .before .before)) (short s)
+    (feeds-yes _ _ (within (s .before .before .before)) (short s)
     (ltb-false _ _ (sym (too-much (c .before)) ∙ c .if3 .left)))
 
 pub sound-spec : {M : Type 1} → statement M

@@ -18,13 +18,13 @@ returns-2 : tie.Need-returns-2
 unfolding jobIn
 returns-2 c =
     passes _ _ _ (le-leb _ _ (c .before .before .if1 .left))
-    (fails _ _ (sym (c .before .suits-job .ensures) ∙ not-true _ (c .if2 .taken)))
+    (fails _ _ (sym (c .before .suits-owed .ensures) ∙ not-true _ (c .if2 .taken)))
 
 returns-3 : tie.Need-returns-3
 unfolding jobIn
 returns-3 c =
     passes _ _ _ (le-leb _ _ (c .before .before .before .before .if1 .left))
-    (passes _ _ _ (sym (c .before .before .before .suits-job .ensures) ∙ not-false _ (c .before .before .if2 .left))
+    (passes _ _ _ (sym (c .before .before .before .suits-owed .ensures) ∙ not-false _ (c .before .before .if2 .left))
     (fails _ _ (sym (c .before .is-after .ensures) ∙ not-true _ (c .if3 .taken))))
 
 ticks-since-requires : tie.Need-ticks-since-requires
@@ -37,17 +37,17 @@ returns-4 : tie.Need-returns-4
 unfolding jobIn
 returns-4 c =
     passes _ _ _ (le-leb _ _ (c .before .before .before .before .before .before .before .if1 .left))
-    (passes _ _ _ (sym (c .before .before .before .before .before .before .suits-job .ensures) ∙ not-false _ (c .before .before .before .before .before .if2 .left))
+    (passes _ _ _ (sym (c .before .before .before .before .before .before .suits-owed .ensures) ∙ not-false _ (c .before .before .before .before .before .if2 .left))
     (passes _ _ _ (sym (c .before .before .before .before .is-after .ensures) ∙ not-false _ (c .before .before .before .if3 .left))
-    (fails _ _ (ap jobLength (sym (c .before .before .ticks-since .ensures)) ∙ sym (c .before .suits-job2 .ensures) ∙ not-true _ (c .if4 .taken)))))
+    (fails _ _ (ap jobLength (sym (c .before .before .ticks-since .ensures)) ∙ sym (c .before .suits-job .ensures) ∙ not-true _ (c .if4 .taken)))))
 
 returns-5 : tie.Need-returns-5
 unfolding jobIn
 returns-5 c =
     passes _ _ _ (le-leb _ _ (c .before .before .before .before .before .before .before .before .if1 .left))
-    (passes _ _ _ (sym (c .before .before .before .before .before .before .before .suits-job .ensures) ∙ not-false _ (c .before .before .before .before .before .before .if2 .left))
+    (passes _ _ _ (sym (c .before .before .before .before .before .before .before .suits-owed .ensures) ∙ not-false _ (c .before .before .before .before .before .before .if2 .left))
     (passes _ _ _ (sym (c .before .before .before .before .before .is-after .ensures) ∙ not-false _ (c .before .before .before .before .if3 .left))
-    (passes _ _ _ (ap jobLength (sym (c .before .before .before .ticks-since .ensures)) ∙ sym (c .before .before .suits-job2 .ensures) ∙ not-false _ (c .before .if4 .left))
+    (passes _ _ _ (ap jobLength (sym (c .before .before .before .ticks-since .ensures)) ∙ sym (c .before .before .suits-job .ensures) ∙ not-false _ (c .before .if4 .left))
     (last _ _ (c .within .ensures)))))
 
 pub within-spec : {M : Type 1} → statement M

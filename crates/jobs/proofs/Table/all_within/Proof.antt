@@ -12,10 +12,11 @@ use Rattle.jobs.proofs.Table.all_within.Statement.{statement}
 use Rattle.jobs.proofs.Table.all_within.Tie as tie
 
 abbrev Inv-loop : tie.InvT-loop
-Inv-loop clock self count i₀ i = every (jobIn clock) (live self) ≡ every (jobIn clock) (drop i (live self))
+Inv-loop charge clock self count i₀ i =
+    every (jobIn charge clock) (live self) ≡ every (jobIn charge clock) (drop i (live self))
 
 abbrev μ-loop : tie.MeasureT-loop
-μ-loop clock self count i₀ i = count - i
+μ-loop charge clock self count i₀ i = count - i
 
 returns : tie.Need-returns Inv-loop μ-loop
 returns c =

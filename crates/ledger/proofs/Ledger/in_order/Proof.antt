@@ -1,11 +1,21 @@
 -- `ledger::Ledger::in_order` meets its contract: each return goes by the tests that led there.
-use mathlib.Core.Path.{sym, _∙_}
+use mathlib.Core.Path.{_≡_, sym, _∙_}
+use mathlib.Core.Bool.{true}
+use lib.Dec.{leb}
 use borrow.Author.Needs.{needs}
-use borrow.Author.Tests.{not-true, not-false}
+use borrow.Author.Tests.{not-true, not-false, leb-true}
 use Rattle.lists.proofs.Tests.{passes, fails, last}
+use Rattle.ticks.specs.Ticks.{mostCharge, within}
 use Rattle.ledger.specs.State.{inOrder}
 use Rattle.ledger.proofs.Ledger.in_order.Statement.{statement}
 use Rattle.ledger.proofs.Ledger.in_order.Tie as tie
+
+-- the clock and the charge are within their limits
+clock-in : (c : tie.Else1) → within (c .before .before .args .self .clock) ≡ true
+clock-in c = sym (c .before .within .ensures) ∙ not-false _ (c .if1 .left)
+
+charge-in : (c : tie.Else2) → leb (c .before .before .before .before .args .self .charge .0) mostCharge ≡ true
+charge-in c = sym (c .before .suits-charge .ensures) ∙ not-false _ (c .if2 .left)
 
 returns : tie.Need-returns
 unfolding inOrder
@@ -14,15 +24,33 @@ returns c = fails _ _ (sym (c .before .within .ensures) ∙ not-true _ (c .if1 .
 returns-2 : tie.Need-returns-2
 unfolding inOrder
 returns-2 c =
-    passes _ _ _ (sym (c .before .before .before .within .ensures) ∙ not-false _ (c .before .before .if1 .left))
-    (fails _ _ (sym (c .before .in-order .ensures) ∙ not-true _ (c .if2 .taken)))
+    passes _ _ _ (clock-in (c .before .before))
+    (fails _ _ (sym (c .before .suits-charge .ensures) ∙ not-true _ (c .if2 .taken)))
 
 returns-3 : tie.Need-returns-3
 unfolding inOrder
 returns-3 c =
-    passes _ _ _ (sym (c .before .before .before .before .within .ensures) ∙ not-false _ (c .before .before .before .if1 .left))
-    (passes _ _ _ (sym (c .before .before .in-order .ensures) ∙ not-false _ (c .before .if2 .left))
-    (last _ _ (c .in-order2 .ensures)))
+    passes _ _ _ (clock-in (c .before .before .before .before))
+    (passes _ _ _ (charge-in (c .before .before))
+    (fails _ _ (sym (c .before .in-order .ensures) ∙ not-true _ (c .if3 .taken))))
+
+returns-4 : tie.Need-returns-4
+unfolding inOrder
+returns-4 c =
+    passes _ _ _ (clock-in (c .before .before .before .before .before))
+    (passes _ _ _ (charge-in (c .before .before .before))
+    (passes _ _ _ (sym (c .before .before .in-order .ensures) ∙ not-false _ (c .before .if3 .left))
+    (last _ _ (c .in-order2 .ensures))))
 
 pub in-order-spec : {M : Type 1} → statement M
-in-order-spec = tie.close (tie.spec (λ c κs. search needs) returns (λ c κs. search needs) returns-2 (λ c κs. search needs) returns-3)
+in-order-spec =
+    tie.close
+    (tie.spec
+    (λ c κs. search needs)
+    returns
+    (λ c κs. search needs)
+    returns-2
+    (λ c κs. leb-true _ _ (charge-in c))
+    returns-3
+    (λ c κs. leb-true _ _ (charge-in (c .before .before)))
+    returns-4)

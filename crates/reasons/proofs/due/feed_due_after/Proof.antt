@@ -24,9 +24,9 @@ returns c =
     let feed = start .args .feed in
     let ahead : start .args .by .0 < then .before .before .due .result .0
     = ltb-true _ _ (sym (then .before .is-after .ensures) ∙ then .if1 .taken) in
-    rw (c .earlier-of .ensures)
-    (until-cut (λ D. feedOwes t D feed) _ _ _ (omega (arith, start .pre .2)) (start .pre .2)
-    (λ E h k. feed-still-before t (start .args .by .0) feed (start .pre .0) E h (omega (arith, due-at (then .before .before), k))))
+    λ charge. rw (c .earlier-of .ensures)
+    (until-cut (λ D. feedOwes charge t D feed) _ _ _ (omega (arith, start .pre .2)) (start .pre .2)
+    (λ E h k. feed-still-before charge t (start .args .by .0) feed (start .pre .0) E h (omega (arith, due-at (then .before .before), k))))
 
 -- it has come
 passed : (c : tie.Else1) → c .before .before .due .result .0 ≤ c .before .before .before .args .by .0
@@ -64,9 +64,9 @@ returns-2 c =
     let come : due (feed .plan) t ≤ at = omega (arith, due-at (else .before .before), passed else) in
     let x : c .before .plus .result .0 ≡ at + (T - (at - due (feed .plan) t) % T)
     = ap (λ i. i .0) (c .before .plus .ensures) ∙ ap (λ n. at + n) (left (c .before .before)) in
-    rw (c .earlier-of2 .ensures)
-    (until-cut (λ D. feedOwes t D feed) _ _ _ (omega (arith, x, mod-lt (at - due (feed .plan) t) (start .pre .0 .period .0))) (start .pre .2)
-    (λ E h k. feed-still-from t at feed (start .pre .0) come E h (omega (arith, x, k))))
+    λ charge. rw (c .earlier-of2 .ensures)
+    (until-cut (λ D. feedOwes charge t D feed) _ _ _ (omega (arith, x, mod-lt (at - due (feed .plan) t) (start .pre .0 .period .0))) (start .pre .2)
+    (λ E h k. feed-still-from charge t at feed (start .pre .0) come E h (omega (arith, x, k))))
 
 pub feed-due-after-spec : {M : Type 1} → statement M
 feed-due-after-spec =

@@ -18,10 +18,10 @@ feeds-due-after-requires c κs =
 returns : tie.Need-returns
 returns c =
     let l = c .before .before .args .ledger in
-    until-both (λ D. total (jobOwes D) (live (l .table))) (λ D. total (feedOwes (l .clock .0) D) (inUse (l .feeds))) (owedBy (bookOf l)) _ _ _ _
+    until-both (λ D. total (jobOwes D) (live (l .table))) (λ D. total (feedOwes (l .charge) (l .clock .0) D) (inUse (l .feeds))) (owedBy (bookOf l)) _ _ _ _
     (owed-by-is l)
     (c .before .jobs-due-after .ensures)
-    (c .feeds-due-after .ensures)
+    (c .feeds-due-after .ensures (l .charge))
 
 pub next-due-spec : {M : Type 1} → statement M
 next-due-spec = tie.close (tie.spec (λ c κs. (c .pre .0 .tidyTable .few, c .pre .2)) feeds-due-after-requires returns)
