@@ -82,7 +82,7 @@ feed-owes-spec =
     returns
     (λ c κs. passed c)
     (λ c. search needs)
-    (λ c κs. (c .before .before .before .before .before .before .pre .0 .0 .work .1, c .before .before .before .before .before .before .pre .1))
+    (λ c κs. let p = c .before .before .before .before .before .before .pre in (p .0 .0 .work .1, omega (arith, p .1)))
     mul-result
     add-result
     returns-2)

@@ -49,7 +49,7 @@ arrive-requires c κs =
     let front = c .before .before in
     let l = start front .args .ledger in
     let ready = given-feeds l (start front .pre) (front .foremost .result .who) in
-    (subst Tidy (sym (c .serve-feeds .ensures)) (ready .0), subst (λ s. Each FeedIn (inUse s)) (sym (c .serve-feeds .ensures)) (ready .1), start front .pre .charge, omega (arith, start front .pre .clock, ap (λ t. t .0) (c .before .next .ensures)))
+    (subst Tidy (sym (c .serve-feeds .ensures)) (ready .0), subst (λ s. Each FeedIn (inUse s)) (sym (c .serve-feeds .ensures)) (ready .1), omega (arith, start front .pre .charge), omega (arith, start front .pre .clock, ap (λ t. t .0) (c .before .next .ensures)))
 
 serve-jobs-requires : tie.Need-serve-jobs-requires
 serve-jobs-requires c κs =

@@ -59,7 +59,7 @@ pub open-at-spec : {M : Type 1} → statement M
 open-at-spec =
     tie.close
     (tie.spec
-    (λ c κs. (c .pre .0 .few, c .pre .2))
+    (λ c κs. (c .pre .0 .few, omega (arith, c .pre .2)))
     (λ c κs. search needs)
     (λ c κs. search needs)
     returns

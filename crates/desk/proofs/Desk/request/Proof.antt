@@ -43,7 +43,9 @@ order : (c : tie.Else1) → InOrder (c .before .before .before .before .before .
 order c = in-order _ (sized (c .before .before .before .before .before)) (not-false _ (yes-first _ _ (is-yes _ (yes c)) .0))
 
 and-requires : tie.Need-and-requires
-and-requires c κs = omega (arith, order c .charge, ap (λ l. l .0) (c .before .before .before .before .of .ensures))
+and-requires c κs =
+    let ask = c .before .before .before in
+    omega (arith, order c .charge, ap (λ l. l .0) (ask .before .of .ensures), ap (λ l. l .0) (ask .of2 .ensures))
 
 plus-requires : tie.Need-plus-requires
 plus-requires c κs = omega (arith, order (c .before) .clock, ap (λ l. l .0) (c .before .before .before .before .of2 .ensures))

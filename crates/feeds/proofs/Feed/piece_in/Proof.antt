@@ -67,7 +67,7 @@ pub piece-in-spec : {M : Type 1} → statement M
 piece-in-spec =
     tie.close
     (tie.spec
-    (λ c κs. (c .pre .0 .work .1, c .pre .1))
+    (λ c κs. (c .pre .0 .work .1, omega (arith, c .pre .1)))
     (λ c κs. search needs)
     returns
     (λ c κs. search needs)

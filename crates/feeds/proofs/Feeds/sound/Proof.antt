@@ -2,6 +2,7 @@
 use mathlib.Core.Path.{_≡_, sym, ap, _∙_}
 use mathlib.Core.Bool.{true}
 use lib.Dec.{leb, ltb}
+use native.Mathlib.Omega.{arith}
 use borrow.Author.Needs.{needs}
 use borrow.Author.Tests.{not-true, not-false, leb-true, ltb-true, ltb-false}
 use Rattle.ticks.specs.Ticks.{mostRound}
@@ -55,7 +56,7 @@ load-requires : tie.Need-load-requires
 load-requires c κs =
     let test = leb-true _ _ (sym (c .before .suits-round .ensures) ∙ not-false _ (c .if2 .left)) in
     let pre = c .before .before .before .before .before .pre in
-    (pre .0, within (c .before .before .before), pre .1, test)
+    (pre .0, within (c .before .before .before), omega (arith, pre .1), test)
 
 returns-3 : tie.Need-returns-3
 returns-3 c =

@@ -1,7 +1,9 @@
 -- `ledger::Ledger::in_order` meets its contract: each return goes by the tests that led there.
 use mathlib.Core.Path.{_≡_, sym, _∙_}
 use mathlib.Core.Bool.{true}
+use Prim.Native.Nat.{_≤_}
 use lib.Dec.{leb}
+use native.Mathlib.Omega.{arith}
 use borrow.Author.Needs.{needs}
 use borrow.Author.Tests.{not-true, not-false, leb-true}
 use Rattle.lists.proofs.Tests.{passes, fails, last}
@@ -16,6 +18,9 @@ clock-in c = sym (c .before .within .ensures) ∙ not-false _ (c .if1 .left)
 
 charge-in : (c : tie.Else2) → leb (c .before .before .before .before .args .self .charge .0) mostCharge ≡ true
 charge-in c = sym (c .before .suits-charge .ensures) ∙ not-false _ (c .if2 .left)
+
+low : (c : tie.Else2) → c .before .before .before .before .args .self .charge .0 ≤ mostCharge
+low c = leb-true _ _ (charge-in c)
 
 returns : tie.Need-returns
 unfolding inOrder
@@ -50,7 +55,7 @@ in-order-spec =
     returns
     (λ c κs. search needs)
     returns-2
-    (λ c κs. leb-true _ _ (charge-in c))
+    (λ c κs. omega (arith, low c))
     returns-3
-    (λ c κs. leb-true _ _ (charge-in (c .before .before)))
+    (λ c κs. omega (arith, low (c .before .before)))
     returns-4)

@@ -36,4 +36,4 @@ returns c =
     (ap (λ n. n * (k .before .args .round .0 / k .before .args .self .period .0)) (told k), bound k)
 
 pub share-spec : {M : Type 1} → statement M
-share-spec = tie.close (tie.spec (λ c κs. (c .pre .work, c .pre .low)) (λ c. search needs) mul-result returns)
+share-spec = tie.close (tie.spec (λ c κs. (c .pre .work, omega (arith, c .pre .low))) (λ c. search needs) mul-result returns)
