@@ -5,7 +5,7 @@
  * Lists are lent for the length of the call; a list of length 0 still needs a place that is not null.
  *
  * Nothing is kept between calls and there is no global state: any number of threads may call at once, each with its own
- * state. A call takes 8 to 18 KB of stack, the states that go in and come back by value among it, and no other memory.
+ * state. A call takes 6 to 19 KB of stack, the states that go in and come back by value among it, and no other memory.
  *
  * Beside each call stand its refusals, in the order in which they are looked for: the first that holds is given. */
 #ifndef DESK_H
@@ -19,19 +19,21 @@ extern "C" {
 #endif
 
 /* One more with every change of a struct, a call or a number below. */
-#define DESK_VERSION 1
+#define DESK_VERSION 2
 
 /* An instant is a reading of the clock, a whole number of ticks; this is the last one, 2 to the 40th. */
 #define DESK_LAST_INSTANT UINT64_C(1099511627776)
 
-/* The other limits. Lengths are in ticks; each goes from 1, but for an offset, which goes from 0 to its period less 1. */
+/* The other limits. Lengths are in ticks; each goes from 1, but for an offset, which goes from 0 to its period less 1, and
+ * a charge, which goes from 0. A work is within its limit without the charge. */
 enum {
     DESK_MOST_JOBS = 64,          /* live at once */
     DESK_MOST_FEEDS = 16,
     DESK_LONGEST_WORK = 65536,    /* of a job */
     DESK_LONGEST_LEAD = 65536,    /* of a job */
     DESK_LONGEST_PERIOD = 40320,  /* of a feed; its work is within the same limit */
-    DESK_LONGEST_ROUND = 40320    /* the least common multiple of the periods, 1 with no feeds */
+    DESK_LONGEST_ROUND = 40320,   /* the least common multiple of the periods, 1 with no feeds */
+    DESK_HIGHEST_CHARGE = 16      /* what each job and each piece owes beside its work */
 };
 
 /* How many numbers or bytes there are of each thing in a lent list. */
@@ -55,13 +57,14 @@ enum {
     DESK_NOTHING_THERE = 7,       /* no such live job; no such feed, or its current piece owes nothing or hasn't come */
     DESK_TOO_MANY_FEEDS = 8,      /* more than 16 feeds */
     DESK_ROUND_TOO_LONG = 9,      /* round above 40,320 */
-    DESK_TOO_MUCH_LOAD = 10,      /* in a round the feeds alone want more ticks than it has */
+    DESK_TOO_MUCH_LOAD = 10,      /* in a round the feeds alone, charges and all, want more ticks than it has */
     DESK_SHORT_BUFFER = 11,       /* buffer shorter than three numbers a live job */
     DESK_NOT_WHOLE_FEEDS = 12,    /* feed list length not a multiple of 3 */
     DESK_NOT_IN_ORDER = 13,       /* state not in order */
     DESK_SHORT_FRONT = 15,        /* fewer than 84 bytes lent of a mesh file */
     DESK_WRONG_LENGTH = 16,       /* a mesh file's length is not 84 and 50 for each of its triangles */
-    DESK_NO_TRIANGLES = 17        /* a mesh without triangles */
+    DESK_NO_TRIANGLES = 17,       /* a mesh without triangles */
+    DESK_CHARGE_TOO_HIGH = 18     /* a charge above 16 */
 };
 
 /* Whom a tick went to. */
@@ -70,8 +73,8 @@ enum { DESK_IDLE = 0, DESK_JOB = 1, DESK_FEED = 2 };
 /* Which lent list holds a label. */
 enum { DESK_JOB_LABELS = 1, DESK_FEED_LABELS = 2 };
 
-/* A feed releases a piece of `work` ticks at each instant that leaves the remainder `offset` when divided by `period`;
- * `owes` is what the current piece still owes, 0 where none has come. */
+/* A feed releases a piece at each instant that leaves the remainder `offset` when divided by `period`. The piece owes
+ * `work` ticks and the charge; `owes` is what the current one still owes of them, 0 where none has come. */
 typedef struct DeskFeed {
     uint64_t period;
     uint64_t work;
@@ -85,7 +88,7 @@ typedef struct DeskFeeds {
     DeskFeed feeds[DESK_MOST_FEEDS];
 } DeskFeeds;
 
-/* A job still owes `owed` ticks before the instant `deadline`. */
+/* A job still owes `owed` ticks, of its work and the charge, before the instant `deadline`. */
 typedef struct DeskJob {
     uint32_t number;
     uint64_t owed;
@@ -98,9 +101,11 @@ typedef struct DeskTable {
     DeskJob jobs[DESK_MOST_JOBS];
 } DeskTable;
 
-/* The state of a box. All zero is the empty state: clock 0, no feeds, no jobs. */
+/* The state of a box. The `charge` is what each job and each piece owes beside its work, as the converter reloads its
+ * buffers: once, never again at a switch. All zero is the empty state: clock 0, charge 0, no feeds, no jobs. */
 typedef struct Desk {
     uint64_t clock;
+    uint64_t charge;
     DeskFeeds feeds;
     DeskTable table;
 } Desk;
@@ -113,10 +118,10 @@ typedef struct DeskAnswer {
 
 /* Why a request is refused, or how near it comes to that. `refusal` is what asking would give. For 6, `at` is the
  * earliest instant at which more is owed than there is time; `jobs`, `feeds` and `job` are what the live jobs, the
- * feeds and the new job owe by then, and `margin` is the time until then less all of that, below zero. For a request
- * that would be taken, `margin` is the smallest one over all instants after the clock, `at` the earliest instant that
- * has it, and the three parts are 0. For any other refusal all five are 0. Either instant may lie past the clock's
- * last. */
+ * feeds and the new job owe by then, charges and all, and `margin` is the time until then less all of that, below zero.
+ * For a request that would be taken, `margin` is the smallest one over all instants after the clock, `at` the earliest
+ * instant that has it, and the three parts are 0. For any other refusal all five are 0. Either instant may lie past the
+ * clock's last. */
 typedef struct DeskReason {
     uint32_t refusal;
     uint64_t at;
@@ -174,13 +179,14 @@ DESK_PLACE(DeskJob, deadline, 16);
 DESK_SIZE(DeskTable, 1544);
 DESK_PLACE(DeskTable, count, 0);
 DESK_PLACE(DeskTable, jobs, 8);
-DESK_SIZE(Desk, 2072);
+DESK_SIZE(Desk, 2080);
 DESK_PLACE(Desk, clock, 0);
-DESK_PLACE(Desk, feeds, 8);
-DESK_PLACE(Desk, table, 528);
-DESK_SIZE(DeskAnswer, 2080);
+DESK_PLACE(Desk, charge, 8);
+DESK_PLACE(Desk, feeds, 16);
+DESK_PLACE(Desk, table, 536);
+DESK_SIZE(DeskAnswer, 2088);
 DESK_PLACE(DeskAnswer, desk, 0);
-DESK_PLACE(DeskAnswer, refusal, 2072);
+DESK_PLACE(DeskAnswer, refusal, 2080);
 DESK_SIZE(DeskReason, 48);
 DESK_PLACE(DeskReason, refusal, 0);
 DESK_PLACE(DeskReason, at, 8);
@@ -188,12 +194,12 @@ DESK_PLACE(DeskReason, jobs, 16);
 DESK_PLACE(DeskReason, feeds, 24);
 DESK_PLACE(DeskReason, job, 32);
 DESK_PLACE(DeskReason, margin, 40);
-DESK_SIZE(DeskStepped, 2096);
+DESK_SIZE(DeskStepped, 2104);
 DESK_PLACE(DeskStepped, desk, 0);
-DESK_PLACE(DeskStepped, refusal, 2072);
-DESK_PLACE(DeskStepped, kind, 2076);
-DESK_PLACE(DeskStepped, number, 2080);
-DESK_PLACE(DeskStepped, owes, 2088);
+DESK_PLACE(DeskStepped, refusal, 2080);
+DESK_PLACE(DeskStepped, kind, 2084);
+DESK_PLACE(DeskStepped, number, 2088);
+DESK_PLACE(DeskStepped, owes, 2096);
 DESK_SIZE(DeskListed, 8);
 DESK_PLACE(DeskListed, refusal, 0);
 DESK_PLACE(DeskListed, count, 4);
@@ -206,18 +212,18 @@ DESK_PLACE(DeskLabel, length, 16);
 #undef DESK_SIZE
 #undef DESK_HOLDS
 
-/* Opens at the instant `start` with a list of `length` numbers, three a feed: period, work, offset.
- * 12, 8, 3 (`start`), 2, 9, 10. */
-DeskAnswer desk_open(const uint32_t *list, size_t length, uint64_t start);
+/* Opens at the instant `start` with a list of `length` numbers, three a feed: period, work, offset. From then on each job
+ * and each piece owes `charge` ticks beside its work. 12, 8, 3 (`start`), 18, 2, 9, 10. */
+DeskAnswer desk_open(const uint32_t *list, size_t length, uint64_t start, uint32_t charge);
 
-/* Asks for a job of `work` ticks within `lead` ticks from now: taken exactly if it, everything promised and every piece
- * to come can still be done in time. 13, 1, 2, 3 (its deadline), 4, 5, 6. */
+/* Asks for a job of `work` ticks, beside which it owes the charge, within `lead` ticks from now: taken exactly if it,
+ * everything promised and every piece to come can still be done in time. 13, 1, 2, 3 (its deadline), 4, 5, 6. */
 DeskAnswer desk_ask(Desk desk, uint32_t number, uint32_t work, uint32_t lead);
 
 /* Asks for a job by its mesh file itself, a binary STL: `head` is the `lent` bytes from the front of the file, 84 or
  * more, and `size` the length of the whole file. The work goes by the triangle count that stands there: to 9,999 it is
  * 4 ticks, to 99,999 16, to 999,999 120, to 9,999,999 900, to 99,999,999 8,000, and above that 65,536. The ordinary ask
- * follows. 13, 15, 16, 17, 1, 2, 3 (its deadline), 4, 5, 6. */
+ * follows, the charge on top. 13, 15, 16, 17, 1, 2, 3 (its deadline), 4, 5, 6. */
 DeskAnswer desk_ask_mesh(Desk desk, const uint8_t *head, size_t lent, uint64_t size, uint32_t number, uint32_t lead);
 
 /* Tells why a job would be refused, or how near it comes to that; nothing is changed. 13, 1, 2, 3, 4, 5, 6, as asking. */

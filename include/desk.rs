@@ -6,7 +6,7 @@
 // A program uses what it needs.
 #![allow(dead_code)]
 
-pub const VERSION: u32 = 1;
+pub const VERSION: u32 = 2;
 
 pub const LAST_INSTANT: u64 = 1 << 40;
 pub const MOST_JOBS: usize = 64;
@@ -15,6 +15,7 @@ pub const LONGEST_WORK: u64 = 65_536;
 pub const LONGEST_LEAD: u64 = 65_536;
 pub const LONGEST_PERIOD: u64 = 40_320;
 pub const LONGEST_ROUND: u64 = 40_320;
+pub const HIGHEST_CHARGE: u64 = 16;
 
 pub const NUMBERS_A_FEED: usize = 3;
 pub const NUMBERS_A_JOB: usize = 3;
@@ -39,6 +40,7 @@ pub const NOT_IN_ORDER: u32 = 13;
 pub const SHORT_FRONT: u32 = 15;
 pub const WRONG_LENGTH: u32 = 16;
 pub const NO_TRIANGLES: u32 = 17;
+pub const CHARGE_TOO_HIGH: u32 = 18;
 
 pub const IDLE: u32 = 0;
 pub const JOB: u32 = 1;
@@ -91,6 +93,7 @@ impl Default for Table {
 #[repr(C)]
 pub struct Desk {
     pub clock: u64,
+    pub charge: u64,
     pub feeds: Feeds,
     pub table: Table,
 }
@@ -141,7 +144,7 @@ pub struct Label {
 // A call to a line, as `tests/layout` reads them.
 #[rustfmt::skip]
 extern "C" {
-    fn desk_open(list: *const u32, length: usize, start: u64) -> Answer;
+    fn desk_open(list: *const u32, length: usize, start: u64, charge: u32) -> Answer;
     fn desk_ask(desk: Desk, number: u32, work: u32, lead: u32) -> Answer;
     fn desk_ask_mesh(desk: Desk, head: *const u8, lent: usize, size: u64, number: u32, lead: u32) -> Answer;
     fn desk_why(desk: Desk, number: u32, work: u32, lead: u32) -> Reason;
@@ -155,8 +158,8 @@ extern "C" {
 // Why each call below is safe: the library takes any state and any numbers, each place handed over is that of a slice of
 // the length handed over, and the library keeps none of them.
 impl Desk {
-    pub fn open(list: &[u32], start: u64) -> Answer {
-        unsafe { desk_open(list.as_ptr(), list.len(), start) }
+    pub fn open(list: &[u32], start: u64, charge: u32) -> Answer {
+        unsafe { desk_open(list.as_ptr(), list.len(), start, charge) }
     }
 
     pub fn ask(self, number: u32, work: u32, lead: u32) -> Answer {

@@ -1,7 +1,16 @@
-/* A desk from C: opens with two feeds, asks and asks why, rests, steps and lists, and asks with a mesh file. */
+/* A desk from C: opens with two feeds, asks and asks why, rests, steps and lists, asks with a mesh file, and opens under a
+ * charge. */
 #include "desk.h"
 
 #include <stdio.h>
+
+/* Two printers: one wants 1 tick in 4, one 2 in 6. */
+static Desk opened(uint32_t charge) {
+    static const uint32_t feeds[] = {4, 1, 0, 6, 2, 0};
+    DeskAnswer answer = desk_open(feeds, sizeof feeds / sizeof *feeds, 0, charge);
+    printf("open at charge %u: %u\n", charge, answer.refusal);
+    return answer.desk;
+}
 
 static Desk told(uint32_t number, DeskAnswer answer) {
     if (answer.refusal == DESK_YES)
@@ -61,10 +70,7 @@ static void labelled(Desk desk) {
 }
 
 int main(void) {
-    const uint32_t feeds[] = {4, 1, 0, 6, 2, 0};
-    DeskAnswer opened = desk_open(feeds, 6, 0);
-    printf("open: %u\n", opened.refusal);
-    Desk desk = opened.desk;
+    Desk desk = opened(0);
     desk = asked(desk, 1, 3, 6);
     desk = asked(desk, 2, 1, 6);
     asked_why(desk, 2, 1, 6);
@@ -91,5 +97,7 @@ int main(void) {
     desk.clock = desk.clock + 1000000;
     desk.table.count = DESK_MOST_JOBS + 1;
     desk = stepped(desk);
+    asked_why(opened(1), 1, 3, 6); /* each piece and the job owe 1 more: what fitted does not */
+    opened(DESK_HIGHEST_CHARGE + 1);
     return 0;
 }

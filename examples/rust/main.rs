@@ -5,6 +5,13 @@ mod desk;
 
 use desk::{Answer, Desk, Reason};
 
+/// Two printers: one wants 1 tick in 4, one 2 in 6.
+fn opened(charge: u32) -> Desk {
+    let answer = Desk::open(&[4, 1, 0, 6, 2, 0], 0, charge);
+    println!("open at charge {charge}: {}", answer.refusal);
+    answer.desk
+}
+
 fn told(number: u32, answer: Answer) -> Desk {
     match answer.refusal {
         desk::YES => println!("job {number}: yes"),
@@ -60,9 +67,7 @@ fn labelled(desk: Desk) {
 }
 
 fn main() {
-    let opened = Desk::open(&[4, 1, 0, 6, 2, 0], 0);
-    println!("open: {}", opened.refusal);
-    let mut desk = opened.desk;
+    let mut desk = opened(0);
     desk = asked(desk, 1, 3, 6);
     desk = asked(desk, 2, 1, 6);
     asked_why(desk, 2, 1, 6);
@@ -90,4 +95,6 @@ fn main() {
     desk.clock += 1_000_000;
     desk.table.count = desk::MOST_JOBS + 1;
     stepped(desk);
+    asked_why(opened(1), 1, 3, 6); // each piece and the job owe 1 more: what fitted does not
+    opened(desk::HIGHEST_CHARGE as u32 + 1);
 }

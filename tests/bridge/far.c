@@ -37,7 +37,7 @@ static void opening(void) {
     uint32_t *list = get_list(&size);
     uint64_t start;
     get(&start, sizeof start);
-    DeskAnswer answer = desk_open(list, size / sizeof *list, start);
+    DeskAnswer answer = desk_open(list, size / sizeof *list, start, get_number());
     put(&answer, sizeof answer);
     free(list);
 }

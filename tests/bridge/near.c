@@ -66,11 +66,12 @@ static void answer(void *bytes, size_t size) {
     get(bytes, size);
 }
 
-DeskAnswer desk_open(const uint32_t *list, size_t length, uint64_t start) {
+DeskAnswer desk_open(const uint32_t *list, size_t length, uint64_t start, uint32_t charge) {
     DeskAnswer opened;
     call(CALL_OPEN, NULL);
     put_list(list, length * sizeof *list);
     put(&start, sizeof start);
+    put(&charge, sizeof charge);
     answer(&opened, sizeof opened);
     return opened;
 }

@@ -2,6 +2,10 @@
 //! requested job in it and watch whether anything is ever late. Nothing that is
 //! owed is added up.
 //!
+//! A job comes here with the charge in what it owes, and a piece gets it when it
+//! comes. It is never paid again at a switch: to what follows the charge is work
+//! like any other.
+//!
 //! # Why the step rule decides
 //!
 //! If the rehearsal is never late, its own choice of ticks serves every F, so
@@ -38,7 +42,7 @@ use crate::model::{round_of, Desk, Feed, Instant, Job, Length};
 /// A feed in rehearsal. `release` is the next one and the current deadline.
 struct Stream {
     period: Length,
-    work: Length,
+    charged_work: Length,
     owes: Length,
     release: Instant,
 }
@@ -77,7 +81,7 @@ impl Rehearsal {
     fn new(desk: &Desk) -> Rehearsal {
         let stream = |feed: &Feed| Stream {
             period: feed.period,
-            work: feed.work,
+            charged_work: feed.charged_work(desk.charge),
             owes: feed.owes,
             release: feed.next_release(desk.clock),
         };
@@ -113,7 +117,7 @@ impl Rehearsal {
                 if stream.owes > 0 {
                     return false;
                 }
-                stream.owes = stream.work;
+                stream.owes = stream.charged_work;
                 stream.release += stream.period;
             }
         }

@@ -7,7 +7,7 @@ pub use desk::{Answer, Desk, Feed, Job, Label, Listed, Reason, Stepped};
 
 /// The calls, whoever answers them.
 pub trait Library {
-    fn open(&self, list: &[u32], start: u64) -> Answer;
+    fn open(&self, list: &[u32], start: u64, charge: u32) -> Answer;
     fn ask(&self, desk: Desk, number: u32, work: u32, lead: u32) -> Answer;
     fn ask_mesh(&self, desk: Desk, head: &[u8], size: u64, number: u32, lead: u32) -> Answer;
     fn why(&self, desk: Desk, number: u32, work: u32, lead: u32) -> Reason;
@@ -24,8 +24,8 @@ pub struct Linked;
 
 #[cfg(feature = "calls")]
 impl Library for Linked {
-    fn open(&self, list: &[u32], start: u64) -> Answer {
-        Desk::open(list, start)
+    fn open(&self, list: &[u32], start: u64, charge: u32) -> Answer {
+        Desk::open(list, start, charge)
     }
     fn ask(&self, desk: Desk, number: u32, work: u32, lead: u32) -> Answer {
         desk.ask(number, work, lead)

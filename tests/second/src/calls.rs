@@ -2,8 +2,8 @@
 //! the answer, every field of the state handed back, every word of the buffers.
 
 use crate::boundary::{Answer, Desk, Feed, Job, Label, Library, Listed, Reason, Stepped};
-use crate::invent::{self, Mesh};
-use crate::model::{self, LAST_INSTANT};
+use crate::invent::{self, Mesh, Opening};
+use crate::model::{self, CHARGE_MOST, JOB_LENGTH_MOST, LAST_INSTANT};
 use crate::own::{read, write, Own};
 use crate::random::Random;
 use crate::workers;
@@ -47,7 +47,7 @@ fn report(seed: u64, outcome: Result<Tally, String>) -> bool {
 
 #[derive(Clone, Debug)]
 enum Call {
-    Open { list: Vec<u32>, start: u64 },
+    Open(Opening),
     Ask { number: u32, work: u32, lead: u32 },
     AskMesh { mesh: Mesh, number: u32, lead: u32 },
     Why { number: u32, work: u32, lead: u32 },
@@ -86,7 +86,11 @@ fn unwritten() -> Vec<u64> {
 
 fn make(library: &dyn Library, desk: Desk, call: &Call) -> Said {
     match call {
-        Call::Open { list, start } => Said::Answer(library.open(list, *start)),
+        Call::Open(Opening {
+            list,
+            start,
+            charge,
+        }) => Said::Answer(library.open(list, *start, *charge)),
         Call::Ask { number, work, lead } => Said::Answer(library.ask(desk, *number, *work, *lead)),
         Call::AskMesh { mesh, number, lead } => {
             let head = mesh.head.clone();
@@ -112,7 +116,7 @@ fn make(library: &dyn Library, desk: Desk, call: &Call) -> Said {
 
 fn name(call: &Call) -> &'static str {
     match call {
-        Call::Open { .. } => "open",
+        Call::Open(_) => "open",
         Call::Ask { .. } => "ask",
         Call::AskMesh { .. } => "mesh",
         Call::Why { .. } => "why",
@@ -204,19 +208,14 @@ impl Walk<'_> {
     }
 
     fn walk_from_an_opening(&mut self) -> Result<(), String> {
-        let random = &mut self.random;
-        let start = invent::start(random);
-        let mut list = invent::as_list(&invent::feeds(random, start));
-        if random.chance(15) {
-            spoil_list(random, &mut list);
+        // Openings alone, as a walk is long and an opening has many refusals.
+        for _ in 0..self.random.below(10) {
+            let opening = some_opening(&mut self.random);
+            self.call(Desk::default(), Call::Open(opening))?;
         }
-        let start = if random.chance(3) {
-            random.next()
-        } else {
-            start
-        };
-        let refused = model::open(&list, start).is_err();
-        let mut desk = self.call(Desk::default(), Call::Open { list, start })?;
+        let opening = some_opening(&mut self.random);
+        let refused = opening.open().is_err();
+        let mut desk = self.call(Desk::default(), Call::Open(opening))?;
         if refused && self.random.chance(80) {
             return Ok(());
         }
@@ -358,11 +357,16 @@ impl Walk<'_> {
         Call::Label { jobs, feeds }
     }
 
-    /// Where nothing is promised yet the work of every band finds room, so that
-    /// each shows in what is taken.
+    /// Where nothing is promised yet the work of every band finds room, the last
+    /// one's without a charge only, so that each shows in what is taken.
     fn meshes_on_an_empty_desk(&mut self, clock: u64) -> Result<(), String> {
+        let charge = match self.random.below(2) {
+            0 => 0,
+            _ => self.random.between(1, CHARGE_MOST),
+        };
         let mut desk = Desk {
             clock,
+            charge,
             ..Desk::default()
         };
         for _ in 0..self.random.between(1, 4) {
@@ -406,9 +410,10 @@ impl Walk<'_> {
         let clock = random.pick(&[clock, LAST_INSTANT - 65_536]);
         let due = clock + 65_536 - random.pick(&[0, 1, 1, 1, 2, 50, 5_000, 40_000]);
         let (period, offset) = (40_320, due % 40_320);
-        let work = period - random.pick(&[0, 0, 0, 1, 100]);
+        let charge = random.pick(&[0, 0, 1, 3, 16]);
+        let work = period - charge - random.pick(&[0, 0, 0, 1, 100]);
         let owes = match random.below(4) {
-            0 if clock >= offset => random.below(work + 1),
+            0 if clock >= offset => random.below(work + charge + 1),
             _ => 0,
         };
         let feed = model::Feed {
@@ -419,6 +424,7 @@ impl Walk<'_> {
         };
         let state = model::Desk {
             clock,
+            charge,
             feeds: vec![feed],
             jobs: Vec::new(),
         };
@@ -466,6 +472,22 @@ impl Walk<'_> {
     }
 }
 
+/// An opening that mostly passes, else often with more than one thing wrong, as the
+/// order of refusals shows nowhere else.
+fn some_opening(random: &mut Random) -> Opening {
+    let mut opening = invent::opening(random);
+    if random.chance(15) {
+        spoil_list(random, &mut opening.list);
+    }
+    if random.chance(3) {
+        opening.start = random.next();
+    }
+    if opening.open().is_err() && random.chance(30) {
+        opening.charge = random.pick(&invent::CHARGES_TOO_HIGH);
+    }
+    opening
+}
+
 /// A number, a work and a lead to ask with.
 fn request(random: &mut Random, state: &model::Desk) -> (u32, u32, u32) {
     let number = invent::number(random, state);
@@ -488,7 +510,7 @@ fn run_on(random: &mut Random, desk: Desk) -> Desk {
 }
 
 fn spoil_list(random: &mut Random, list: &mut Vec<u32>) {
-    match random.below(5) {
+    match random.below(6) {
         0 => list.extend((0..random.between(1, 8)).map(|_| 1)),
         1 => {
             let any = random.index(60);
@@ -496,6 +518,11 @@ fn spoil_list(random: &mut Random, list: &mut Vec<u32>) {
         }
         2 => list.truncate(random.index(list.len() + 1)),
         _ if list.is_empty() => list.push(4),
+        // More work than the period has ticks.
+        3 if list.len() % 3 == 0 => {
+            let feed = 3 * random.index(list.len() / 3);
+            list[feed + 1] = list[feed] + 1;
+        }
         _ => {
             let place = random.index(list.len());
             list[place] =
@@ -544,9 +571,10 @@ fn overbook(random: &mut Random, desk: &mut Desk) {
     };
     let clock = state.clock;
     let room = (LAST_INSTANT - clock).min(65_536);
+    let most = JOB_LENGTH_MOST + state.charge;
     for feed in &mut state.feeds {
         if clock >= feed.offset && random.chance(30) {
-            feed.owes = random.below(feed.work + 1);
+            feed.owes = random.below(feed.charged_work(state.charge) + 1);
         }
     }
     if room > 0 {
@@ -556,13 +584,13 @@ fn overbook(random: &mut Random, desk: &mut Desk) {
                 job.deadline = clock + random.between(1, near);
             }
             if random.chance(20) {
-                job.owed = random.pick(&[1, 2, 10, 65_536]);
+                job.owed = random.pick(&[1, 2, 10, 65_536, most]);
             }
         }
         for _ in 0..random.pick(&[0, 1, 1, 3, 10, 100]) {
             let job = model::Job {
                 number: random.between(1, 300) as u32,
-                owed: random.pick(&[1, 1, 2, 3, 10, 1_000, 65_536]),
+                owed: random.pick(&[1, 1, 2, 3, 10, 1_000, 65_536, most]),
                 deadline: clock + random.between(1, near),
             };
             let known = state.jobs.iter().any(|other| other.number == job.number);
@@ -590,11 +618,12 @@ fn move_on(random: &mut Random, desk: &mut Desk) {
         _ => LAST_INSTANT - random.between(65_000, 65_600),
     };
     for feed in &mut state.feeds {
+        let whole = feed.charged_work(state.charge);
         feed.owes = match random.below(4) {
             _ if clock < feed.offset => 0,
             0 => 0,
-            1 => feed.work,
-            _ => random.below(feed.work + 1),
+            1 => whole,
+            _ => random.below(whole + 1),
         };
     }
     for job in &mut state.jobs {
@@ -611,7 +640,7 @@ fn move_on(random: &mut Random, desk: &mut Desk) {
 
 /// One thing wrong; sometimes one field set to a value just inside its limits.
 fn damage(random: &mut Random, desk: &mut Desk) {
-    match random.below(12) {
+    match random.below(16) {
         0 => desk.feeds.count = random.pick(&[17, 18, 256, usize::MAX, desk.feeds.count + 1]),
         1 => desk.table.count = random.pick(&[65, 66, 256, usize::MAX, desk.table.count + 1]),
         2 => number_twice(desk),
@@ -629,7 +658,35 @@ fn damage(random: &mut Random, desk: &mut Desk) {
                 &mut desk.feeds.feeds[random.between(desk.feeds.count.min(15) as u64, 15) as usize];
             set_feed(feed, random.below(4), 1);
         }
+        8..=9 => another_charge(random, desk),
+        10..=11 => owing_all_or_more(random, desk),
         _ => one_field(random, desk),
+    }
+}
+
+/// The charge alone is another one: with it the feeds may no longer pass, and what
+/// jobs and pieces owe may be too much.
+fn another_charge(random: &mut Random, desk: &mut Desk) {
+    desk.charge = match random.below(8) {
+        0 => CHARGE_MOST + 1,
+        1 => random.pick(&[18, 32, 1 << 32, 1 << 63, u64::MAX, u64::MAX - 65_536]),
+        2 => desk.charge.saturating_sub(1),
+        3..=4 => desk.charge + 1,
+        _ => random.between(0, CHARGE_MOST),
+    };
+}
+
+/// A job or a piece that owes all it can, or one tick more, under this charge or
+/// the lowest or highest.
+fn owing_all_or_more(random: &mut Random, desk: &mut Desk) {
+    desk.charge = random.pick(&[desk.charge, desk.charge, 0, CHARGE_MOST]);
+    let more = desk.charge + random.below(2);
+    let (feeds, jobs) = (desk.feeds.count.min(16), desk.table.count.min(64));
+    if jobs > 0 && random.chance(50) {
+        desk.table.jobs[random.index(jobs)].owed = JOB_LENGTH_MOST + more;
+    } else if feeds > 0 {
+        let feed = &mut desk.feeds.feeds[random.index(feeds)];
+        feed.owes = feed.work + more;
     }
 }
 
@@ -685,15 +742,15 @@ fn feeds_that_would_not_pass(random: &mut Random, desk: &mut Desk) {
         2 => feed.offset = feed.period + random.below(2),
         3 => feed.work = feed.period,
         4 => feed.work += 1,
-        _ => feed.owes = feed.work + random.pick(&[0, 1, 1, u64::MAX / 2]),
+        _ => feed.owes = feed.work + desk.charge + random.pick(&[0, 1, 1, u64::MAX / 2]),
     }
 }
 
-/// Any one field, set to a value that is about to matter.
-fn one_field(random: &mut Random, desk: &mut Desk) {
-    let clock = desk.clock;
+/// A value at which some field of this state is about to matter.
+fn value_at_a_limit(random: &mut Random, desk: &Desk) -> u64 {
+    let (clock, charge) = (desk.clock, desk.charge);
     let other = desk.table.jobs[random.index(64)].number.into();
-    let values = [
+    random.pick(&[
         0,
         1,
         clock,
@@ -707,31 +764,32 @@ fn one_field(random: &mut Random, desk: &mut Desk) {
         40_321,
         65_536,
         65_537,
+        65_536 + charge,
+        65_537 + charge,
         u64::MAX,
         u64::MAX - 1,
         1 << 32,
         other,
-    ];
-    let value = random.pick(&values);
-    match random.below(8) {
+    ])
+}
+
+/// Any one field, set to such a value.
+fn one_field(random: &mut Random, desk: &mut Desk) {
+    let value = value_at_a_limit(random, desk);
+    match random.below(9) {
         0 => desk.clock = value,
         1 => desk.feeds.count = (value % 20) as usize,
         2 => desk.table.count = (value % 70) as usize,
-        3..=4 => {
+        3 => desk.charge = value,
+        4..=5 => {
             let among = desk.feeds.count.clamp(1, 16);
-            set_feed(
-                &mut desk.feeds.feeds[random.index(among)],
-                random.below(4),
-                value,
-            );
+            let feed = &mut desk.feeds.feeds[random.index(among)];
+            set_feed(feed, random.below(4), value);
         }
         _ => {
             let among = desk.table.count.clamp(1, 64);
-            set_job(
-                &mut desk.table.jobs[random.index(among)],
-                random.below(3),
-                value,
-            );
+            let job = &mut desk.table.jobs[random.index(among)];
+            set_job(job, random.below(3), value);
         }
     }
 }
@@ -767,8 +825,8 @@ fn describe(desk: &Desk, call: &Call, ours: &Said, theirs: &Said) -> String {
 /// A state without the long tail of places that are all zero.
 fn short(desk: &Desk) -> String {
     let mut lines = vec![format!(
-        "clock {}, {} feeds, {} jobs",
-        desk.clock, desk.feeds.count, desk.table.count
+        "clock {}, charge {}, {} feeds, {} jobs",
+        desk.clock, desk.charge, desk.feeds.count, desk.table.count
     )];
     for (position, feed) in (1..).zip(&desk.feeds.feeds) {
         if *feed != Feed::default() || position <= desk.feeds.count {

@@ -1,17 +1,20 @@
 //! Random scripts that try to be awkward: loads near 100 %, equal deadlines,
 //! works just at what fits, reused numbers, ends and rests in between, openings
-//! in mid-period and near the last instant, rounds of exactly 40,320, and bad
-//! lines of every kind. A script keeps the model's state beside it, so that
-//! most lines mean something where they stand.
+//! in mid-period, near the last instant and under any charge, rounds of exactly
+//! 40,320, and bad lines of every kind. A script keeps the model's state beside
+//! it, so that most lines mean something where they stand.
 
 use crate::ahead;
 use crate::mesh;
-use crate::model::{open, round_of, Desk, Feed, JOB_LENGTH_MOST, LAST_INSTANT, ROUND_MOST};
+use crate::model::{
+    open, round_of, Desk, Feed, Length, Refusal, CHARGE_MOST, JOB_LENGTH_MOST, LAST_INSTANT,
+    ROUND_MOST,
+};
 use crate::random::Random;
 use crate::reason::Instants;
 use crate::script::INPUT_MOST;
 
-// ---------------------------------------------------------------- feeds
+// ---------------------------------------------------------------- openings
 
 fn divisors(of: u64) -> Vec<u64> {
     (1..=of).filter(|divisor| of % divisor == 0).collect()
@@ -93,8 +96,9 @@ enum Load {
     Over,
 }
 
-/// Works for these periods: at least 1 each, dropping feeds that find no room.
-fn with_works(random: &mut Random, periods: Vec<u64>, load: Load) -> Vec<Feed> {
+/// Works for these periods under this charge: at least 1 each, dropping feeds that
+/// find no room.
+fn with_works(random: &mut Random, periods: Vec<u64>, charge: Length, load: Load) -> Vec<Feed> {
     let feed = |period| Feed {
         period,
         work: 1,
@@ -108,8 +112,9 @@ fn with_works(random: &mut Random, periods: Vec<u64>, load: Load) -> Vec<Feed> {
     };
     let mut room = round;
     feeds.retain(|feed| {
-        let fits = round / feed.period <= room;
-        room -= if fits { round / feed.period } else { 0 };
+        let least = feed.charged_work(charge) * (round / feed.period);
+        let fits = least <= room;
+        room -= if fits { least } else { 0 };
         fits
     });
     shuffle(random, &mut feeds);
@@ -141,15 +146,16 @@ fn fill(feeds: &mut [Feed], round: u64, mut room: u64, over: bool) {
     }
 }
 
-/// Feeds that mostly pass the opening, with any offsets.
-pub fn feeds(random: &mut Random, start: u64) -> Vec<Feed> {
+/// Feeds that mostly pass the opening under this charge, with any offsets.
+fn feeds(random: &mut Random, start: u64, charge: u32) -> Vec<Feed> {
     let load = match random.below(100) {
         0..=29 => Load::Some,
         30..=94 => Load::Full,
         _ => Load::Over,
     };
     let periods = periods(random);
-    let mut feeds = with_works(random, periods, load);
+    let charge = Length::from(charge).min(CHARGE_MOST);
+    let mut feeds = with_works(random, periods, charge, load);
     let kind = random.below(4);
     for feed in &mut feeds {
         feed.offset = match kind {
@@ -165,7 +171,21 @@ pub fn feeds(random: &mut Random, start: u64) -> Vec<Feed> {
     feeds
 }
 
-pub fn start(random: &mut Random) -> u64 {
+/// Charges that are refused.
+pub const CHARGES_TOO_HIGH: [u32; 7] = [17, 17, 18, 32, 256, 1 << 31, u32::MAX];
+
+/// A charge: mostly a low one, as few feeds find room under a high one.
+fn charge(random: &mut Random) -> u32 {
+    match random.below(100) {
+        0..=24 => 0,
+        25..=69 => random.between(1, 3) as u32,
+        70..=91 => random.between(4, 15) as u32,
+        92..=95 => 16,
+        _ => random.pick(&CHARGES_TOO_HIGH),
+    }
+}
+
+fn start(random: &mut Random) -> u64 {
     match random.below(100) {
         0..=29 => 0,
         30..=49 => random.below(100),
@@ -183,11 +203,50 @@ pub fn start(random: &mut Random) -> u64 {
     }
 }
 
-pub fn as_list(feeds: &[Feed]) -> Vec<u32> {
+fn as_list(feeds: &[Feed]) -> Vec<u32> {
     feeds
         .iter()
         .flat_map(|f| [f.period as u32, f.work as u32, f.offset as u32])
         .collect()
+}
+
+/// What an opening is given.
+#[derive(Clone, Debug)]
+pub struct Opening {
+    pub list: Vec<u32>,
+    pub start: u64,
+    pub charge: u32,
+}
+
+/// An opening that mostly passes. Now and then the charge is one more or one less
+/// than the feeds were made for, so that it alone is too much or leaves room.
+pub fn opening(random: &mut Random) -> Opening {
+    let start = start(random);
+    let charge = charge(random);
+    let list = as_list(&feeds(random, start, charge));
+    let charge = match random.below(100) {
+        0..=3 => charge.saturating_add(1),
+        4..=7 => charge.saturating_sub(1),
+        _ => charge,
+    };
+    Opening {
+        list,
+        start,
+        charge,
+    }
+}
+
+impl Opening {
+    pub fn open(&self) -> Result<Desk, Refusal> {
+        open(&self.list, self.start, self.charge)
+    }
+
+    fn lines(&self) -> Vec<String> {
+        let feed_line = |f: &[u32]| format!("feed {} {} {}", f[0], f[1], f[2]);
+        let mut lines: Vec<String> = self.list.chunks(3).map(feed_line).collect();
+        lines.push(format!("go {} {}", self.start, self.charge));
+        lines
+    }
 }
 
 // ---------------------------------------------------------------- calls
@@ -219,7 +278,7 @@ pub fn lead(random: &mut Random, desk: &Desk) -> u64 {
 }
 
 /// The most work that fits with this lead, 0 if none does: the smallest margin from
-/// its deadline on.
+/// its deadline on, less the charge.
 pub fn most_that_fits(desk: &Desk, number: u32, lead: u64) -> u64 {
     let far = match desk.ask(number, 1, lead as u32) {
         Ok(taken) => ahead::far_enough(&taken),
@@ -233,7 +292,7 @@ pub fn most_that_fits(desk: &Desk, number: u32, lead: u64) -> u64 {
             least = least.min(owed.margin);
         }
         if owed.at == far {
-            return least as u64;
+            return least as u64 - desk.charge;
         }
     }
 }
@@ -242,10 +301,12 @@ pub fn work(random: &mut Random, desk: &Desk, number: u32, lead: u64) -> u64 {
     match random.below(100) {
         0..=49 => {
             let most = most_that_fits(desk, number, lead);
-            match random.below(5) {
+            match random.below(6) {
                 0 => most + 1,
                 1 | 2 => most,
                 3 => most / 2 + 1,
+                // It would fit if it owed no charge.
+                4 => most + desk.charge,
                 _ => random.between(1, most + 1),
             }
         }
@@ -351,11 +412,12 @@ pub fn least_that_fits(desk: &Desk, number: u32, work: u32) -> Option<u64> {
     let longest = JOB_LENGTH_MOST.min(LAST_INSTANT - desk.clock);
     let far = ahead::far_enough(&desk.ask(number, work, longest as u32).ok()?);
     let mut instants = Instants::after_the_clock(desk, 0, longest);
+    let owes = u64::from(work) + desk.charge;
     let (mut from, mut margin, mut short) = (desk.clock, 0, desk.clock);
     while from < far {
         let next = instants.leap(far);
-        if margin < i64::from(work) {
-            short = (from + u64::from(work) - 1 - margin as u64).min(next.at - 1);
+        if margin < owes as i64 {
+            short = (from + owes - 1 - margin as u64).min(next.at - 1);
         }
         (from, margin) = (next.at, next.margin);
     }
@@ -389,15 +451,9 @@ struct Script {
 }
 
 impl Script {
-    fn opening(random: &mut Random, ticks: u64) -> Option<Script> {
-        let start = start(random);
-        let feeds = feeds(random, start);
-        Script::open(&feeds, start, ticks)
-    }
-
-    fn open(feeds: &[Feed], start: u64, ticks: u64) -> Option<Script> {
-        let lines = opening_lines(feeds, start);
-        let desk = open(&as_list(feeds), start).ok()?;
+    fn open(opening: &Opening, ticks: u64) -> Option<Script> {
+        let lines = opening.lines();
+        let desk = opening.open().ok()?;
         Some(Script { lines, desk, ticks })
     }
 
@@ -467,13 +523,6 @@ impl Script {
     }
 }
 
-fn opening_lines(feeds: &[Feed], start: u64) -> Vec<String> {
-    let feed_line = |f: &Feed| format!("feed {} {} {}", f.period, f.work, f.offset);
-    let mut lines: Vec<String> = feeds.iter().map(feed_line).collect();
-    lines.push(format!("go {start}"));
-    lines
-}
-
 fn text(lines: &[String]) -> Vec<u8> {
     lines
         .iter()
@@ -501,9 +550,8 @@ pub fn script(seed: u64, item: u64) -> Vec<u8> {
 /// Opening and some lines. If the opening is refused the program stops there,
 /// and the lines after it must not be read.
 fn ordinary(random: &mut Random, least: u64, most: u64, ticks: u64) -> Vec<u8> {
-    let start = start(random);
-    let feeds = feeds(random, start);
-    match Script::open(&feeds, start, ticks) {
+    let opening = opening(random);
+    match Script::open(&opening, ticks) {
         Some(mut script) => {
             for _ in 0..random.between(least, most) {
                 script.some_line(random);
@@ -514,10 +562,10 @@ fn ordinary(random: &mut Random, least: u64, most: u64, ticks: u64) -> Vec<u8> {
             script.text()
         }
         None => {
-            let mut lines = opening_lines(&feeds, start);
+            let mut lines = opening.lines();
             lines.push(
                 random
-                    .pick(&["run 3", "nonsense", "", "ask 1 1 1", "go 0"])
+                    .pick(&["run 3", "nonsense", "", "ask 1 1 1", "go 0", "go 0 0"])
                     .to_string(),
             );
             text(&lines)
@@ -528,39 +576,32 @@ fn ordinary(random: &mut Random, least: u64, most: u64, ticks: u64) -> Vec<u8> {
 /// As `ordinary`, but surely opened.
 fn opened(random: &mut Random, ticks: u64) -> Script {
     loop {
-        if let Some(script) = Script::opening(random, ticks) {
+        if let Some(script) = Script::open(&opening(random), ticks) {
             return script;
         }
     }
 }
 
+/// An opening that leaves much room for jobs.
+fn roomy(random: &mut Random) -> Opening {
+    let start = random.pick(&[0, 5, 1_000, LAST_INSTANT - 65_536, LAST_INSTANT - 70_000]);
+    let (a, b, c) = (random.below(12), random.below(10), random.below(4));
+    let (list, most) = match random.below(3) {
+        0 => (vec![], CHARGE_MOST),
+        1 => (vec![12, 5, a as u32], 3),
+        _ => (vec![10, 2, b as u32, 4, 1, c as u32], 1),
+    };
+    let charge = random.between(0, most) as u32;
+    Opening {
+        list,
+        start,
+        charge,
+    }
+}
+
 /// Many small jobs with long leads: the table fills and refuses by 5.
 fn crowd(random: &mut Random) -> Vec<u8> {
-    let start = random.pick(&[0, 5, 1_000, LAST_INSTANT - 65_536, LAST_INSTANT - 70_000]);
-    let feeds = match random.below(3) {
-        0 => Vec::new(),
-        1 => vec![Feed {
-            period: 12,
-            work: 5,
-            offset: random.below(12),
-            owes: 0,
-        }],
-        _ => vec![
-            Feed {
-                period: 10,
-                work: 2,
-                offset: random.below(10),
-                owes: 0,
-            },
-            Feed {
-                period: 4,
-                work: 1,
-                offset: random.below(4),
-                owes: 0,
-            },
-        ],
-    };
-    let mut script = Script::open(&feeds, start, 1_000).expect("these feeds pass");
+    let mut script = Script::open(&roomy(random), 1_000).expect("these feeds pass");
     let deadlines = random.between(1, 5);
     let most = random.pick(&[1, 3, 20]);
     for job in 0..random.between(60, 70) {
@@ -585,18 +626,23 @@ fn crowd(random: &mut Random) -> Vec<u8> {
     script.text()
 }
 
+/// A `go` at and over each limit, its charge now and then no number at all.
+fn strange_go(random: &mut Random) -> String {
+    let start = match random.below(4) {
+        0 => "0",
+        1 => "1",
+        _ => random.pick(&STARTS),
+    };
+    let charge = match random.below(4) {
+        0 => "0",
+        1 => "1",
+        _ => random.pick(&CHARGES),
+    };
+    format!("go {start} {charge}")
+}
+
 /// Openings at and over each limit.
 fn strange_opening(random: &mut Random) -> Vec<u8> {
-    let start_words: [String; 8] = [
-        "0".into(),
-        "1".into(),
-        LAST_INSTANT.to_string(),
-        (LAST_INSTANT + 1).to_string(),
-        (LAST_INSTANT - 1).to_string(),
-        "9999999999999".into(),
-        "4294967295".into(),
-        "4294967296".into(),
-    ];
     let odd: [u64; 10] = [0, 1, 2, 40_319, 40_320, 40_321, 65_536, 4_294_967_295, 7, 3];
     let many = random.pick(&[0, 1, 1, 2, 2, 3, 15, 16, 17]);
     let mut lines = Vec::new();
@@ -624,34 +670,46 @@ fn strange_opening(random: &mut Random) -> Vec<u8> {
         let period = random.between(12, 20);
         lines = vec![format!("feed {period} 1 {}", random.below(period)); many];
     }
-    lines.push(format!("go {}", start_words[random.index(8)]));
+    lines.push(strange_go(random));
     lines.push("ask 1 1 1".into());
     lines.push("run 3".into());
     text(&lines)
 }
 
-const BAD_LINES: [&str; 71] = [
+const BAD_LINES: [&str; 83] = [
     "",
     " ",
     "go",
     "go ",
     "go 0",
     "go 0 ",
-    " go 0",
-    "go  0",
-    "go 00",
-    "go 01",
-    "go -1",
-    "go +1",
-    "go 0x1",
-    "go 10000000000000",
-    "go 00000000000000",
-    "go 99999999999999999999",
     "go 0 0",
-    "Go 0",
-    "GO 0",
-    "goo 0",
-    "g 0",
+    "go 0 0 ",
+    " go 0 0",
+    "go  0 0",
+    "go 0  0",
+    "go 00 0",
+    "go 01 0",
+    "go 0 00",
+    "go 0 01",
+    "go -1 0",
+    "go +1 0",
+    "go 0 -1",
+    "go 0x1 0",
+    "go 0 0x1",
+    "go 10000000000000 0",
+    "go 00000000000000 0",
+    "go 99999999999999999999 0",
+    "go 0 4294967296",
+    "go 0 9999999999999",
+    "go 0 10000000000000",
+    "go 0 0 0",
+    "go 0,0",
+    "Go 0 0",
+    "GO 0 0",
+    "goo 0 0",
+    "g 0 0",
+    "go0 0",
     "feed",
     "feed 4 1",
     "feed 4 1 0",
@@ -728,7 +786,7 @@ fn with_bad_line(random: &mut Random) -> Vec<u8> {
         .iter()
         .position(|line| line.starts_with("go"))
         .expect("it opens");
-    match random.below(10) {
+    match random.below(11) {
         0..=5 => {
             let place = random.index(lines.len() + 1);
             lines.insert(place, random.pick(&BAD_LINES).to_string());
@@ -748,6 +806,7 @@ fn with_bad_line(random: &mut Random) -> Vec<u8> {
             let place = random.between(opening as u64 + 1, lines.len() as u64) as usize;
             lines.insert(place, random.pick(&EDGE_LINES).to_string());
         }
+        9 => lines[opening] = bad_go(random, &lines[opening]),
         // The last newline missing.
         _ => {
             let mut text = text(&lines);
@@ -756,6 +815,27 @@ fn with_bad_line(random: &mut Random) -> Vec<u8> {
         }
     }
     text(&lines)
+}
+
+/// The same `go` without its charge, with a field too many, or with a charge that
+/// is no number.
+fn bad_go(random: &mut Random, go: &str) -> String {
+    let (uncharged, _) = go.rsplit_once(' ').expect("it has a charge");
+    let charge = random.pick(&[
+        "",
+        "4294967296",
+        "9999999999999",
+        "00",
+        "01",
+        "-1",
+        "0x1",
+        "x",
+    ]);
+    match random.below(3) {
+        0 => uncharged.to_string(),
+        1 => format!("{go} {}", random.pick(&["0", "1", "16", ""])),
+        _ => format!("{uncharged} {charge}"),
+    }
 }
 
 fn with_bytes_changed(random: &mut Random) -> Vec<u8> {
@@ -822,8 +902,13 @@ fn pad(random: &mut Random, text: &mut Vec<u8>, size: usize) {
 fn at_the_end_of_time(random: &mut Random) -> Vec<u8> {
     let mut script = loop {
         let start = LAST_INSTANT - random.below(60);
-        let feeds = feeds(random, start);
-        if let Some(script) = Script::open(&feeds, start, 400) {
+        let charge = charge(random);
+        let opening = Opening {
+            list: as_list(&feeds(random, start, charge)),
+            start,
+            charge,
+        };
+        if let Some(script) = Script::open(&opening, 400) {
             break script;
         }
     };
@@ -849,8 +934,9 @@ fn at_the_end_of_time(random: &mut Random) -> Vec<u8> {
 /// The longest answer: the most `run 4096` lines that 65,536 bytes hold.
 pub fn flood() -> Vec<u8> {
     let mut text =
-        b"feed 4 1 0\nfeed 6 2 0\nfeed 40320 7 99\ngo 1099482627776\nask 7 9000 65536\n".to_vec();
-    while text.len() + 9 <= INPUT_MOST {
+        b"feed 4 1 0\nfeed 6 2 0\nfeed 40320 7 99\ngo 1099482627776 0\nask 7 9000 65536\n".to_vec();
+    // A line to pad with has 6 bytes or more.
+    while text.len() + 9 + 6 <= INPUT_MOST {
         text.extend(b"run 4096\n");
     }
     pad(&mut Random::of(0, 0), &mut text, INPUT_MOST);
@@ -862,30 +948,86 @@ pub fn flood() -> Vec<u8> {
 /// Scripts that every comparison begins with: each bad line before and after
 /// `go` and alone, each limit on both sides, each bench example.
 pub fn fixed() -> Vec<Vec<u8>> {
-    let mut scripts: Vec<String> = vec!["".into(), "\n".into(), "go 0".into()];
+    let mut scripts: Vec<String> = vec!["".into(), "\n".into(), "go 0 0".into()];
     for line in BAD_LINES {
         scripts.push(format!("{line}\n"));
-        scripts.push(format!("feed 4 1 0\n{line}\ngo 0\nrun 1\n"));
-        scripts.push(format!("feed 4 1 0\ngo 0\n{line}\nrun 1\n"));
-        scripts.push(format!("feed 4 1 0\ngo 0\n{line}"));
+        scripts.push(format!("feed 4 1 0\n{line}\ngo 0 0\nrun 1\n"));
+        scripts.push(format!("feed 4 1 0\ngo 0 0\n{line}\nrun 1\n"));
+        scripts.push(format!("feed 4 1 0\ngo 0 0\n{line}"));
     }
     for line in EDGE_LINES {
-        scripts.push(format!("feed 4 1 0\ngo 0\n{line}\nrun 1\n"));
+        scripts.push(format!("feed 4 1 0\ngo 0 0\n{line}\nrun 1\n"));
+        scripts.push(format!("feed 4 1 0\ngo 0 3\n{line}\nrun 1\n"));
     }
     for start in STARTS {
         scripts.push(format!(
-            "feed 4 1 0\ngo {start}\nask 1 1 1\nrun 2\nrun 1\nend 1\n"
+            "feed 4 1 0\ngo {start} 0\nask 1 1 1\nrun 2\nrun 1\nend 1\n"
         ));
     }
+    scripts.extend(charged());
     for count in 15..=18 {
         let feeds = |feed: &str| feed.repeat(count);
-        scripts.push(feeds("feed 20 1 0\n") + "go 0\nrun 40\n");
-        scripts.push(feeds("feed 0 1 0\n") + "go 1099511627777\nrun 40\n");
+        scripts.push(feeds("feed 20 1 0\n") + "go 0 0\nrun 40\n");
+        scripts.push(feeds("feed 0 1 0\n") + "go 1099511627777 17\nrun 40\n");
     }
     scripts.extend(BENCH.iter().map(|script| script.to_string()));
     let texts = scripts.into_iter().map(String::into_bytes);
     texts.chain(at_the_size_limit()).collect()
 }
+
+/// Each charge at a limit, beside feeds that pass or do not; then each that is in
+/// order, with a job that is interrupted, a rested piece whose time is used to the
+/// last tick, and the longest work there is.
+fn charged() -> Vec<String> {
+    let mut scripts = Vec::new();
+    for charge in CHARGES {
+        scripts.push(format!("go 1099511627777 {charge}\n"));
+        for feeds in CHARGED_FEEDS {
+            let calls = "ask 1 1 40\nrun 50\n";
+            scripts.push(format!("{feeds}go 0 {charge}\n{calls}"));
+        }
+    }
+    for charge in 0..=CHARGE_MOST {
+        let just = 17 - charge;
+        scripts.push(format!(
+            "feed 20 3 2\ngo 0 {charge}\nask 1 1 40\nrun 25\nend 1\nrest 1\n\
+             ask 2 {} 17\nask 2 {just} 17\nrun 40\n",
+            just + 1
+        ));
+        let just = JOB_LENGTH_MOST - charge;
+        scripts.push(format!(
+            "go 0 {charge}\nask 1 65536 65536\nask 2 {just} 65536\nrun 3\n"
+        ));
+    }
+    scripts
+}
+
+/// None; some that get 2, 9 or 10 under any charge; and some that are full under
+/// the charge 0, 1 or 16.
+const CHARGED_FEEDS: [&str; 7] = [
+    "",
+    "feed 0 1 0\n",
+    "feed 40319 1 0\nfeed 2 1 0\n",
+    "feed 4 4 0\nfeed 4 1 0\n",
+    "feed 2 1 0\nfeed 4 2 0\n",
+    "feed 4 3 0\n",
+    "feed 40320 40304 0\n",
+];
+
+/// Charges on both sides of each limit, as words; the last ones are bad.
+const CHARGES: [&str; 11] = [
+    "0",
+    "1",
+    "2",
+    "15",
+    "16",
+    "17",
+    "18",
+    "4294967295",
+    "4294967296",
+    "9999999999999",
+    "10000000000000",
+];
 
 const STARTS: [&str; 8] = [
     "1099511627775",
@@ -900,20 +1042,20 @@ const STARTS: [&str; 8] = [
 
 /// The document's example and its bench examples, in the program's words.
 pub const BENCH: [&str; 14] = [
-    "feed 4 1 0\nfeed 6 2 0\ngo 0\nask 1 3 6\nask 2 1 6\nrun 12\n",
-    "feed 4 1 0\nfeed 6 2 0\ngo 0\nask 1 4 6\n",
-    "feed 4 1 0\nfeed 6 2 0\ngo 0\nask 1 4 7\nrun 24\n",
-    "feed 4 1 0\nfeed 6 2 0\ngo 0\nask 1 5 12\nrun 24\n",
-    "feed 4 1 0\nfeed 6 2 0\ngo 0\nask 1 6 12\nrun 24\n",
-    "feed 4 1 0\nfeed 6 2 0\ngo 0\nask 1 6 13\nrun 24\n",
-    "feed 2 1 0\nfeed 4 2 0\ngo 0\nask 1 1 65536\nrun 8\n",
-    "feed 2 1 0\nfeed 4 2 0\ngo 0\nrest 1\nask 1 1 1\nrun 8\n",
-    "feed 4 4 0\ngo 0\nask 1 1 1\nrun 8\n",
-    "go 0\nask 1 3 4\nask 2 2 2\nrun 8\n",
-    "feed 40319 1 0\nfeed 2 1 0\ngo 0\n",
-    "feed 2 1 0\nfeed 3 2 0\ngo 0\n",
-    "go 1099511562240\nask 1 1 65536\nrun 2\n",
-    "go 1099511562240\nrun 1\nask 1 1 65536\nrun 2\n",
+    "feed 4 1 0\nfeed 6 2 0\ngo 0 0\nask 1 3 6\nask 2 1 6\nrun 12\n",
+    "feed 4 1 0\nfeed 6 2 0\ngo 0 0\nask 1 4 6\n",
+    "feed 4 1 0\nfeed 6 2 0\ngo 0 0\nask 1 4 7\nrun 24\n",
+    "feed 4 1 0\nfeed 6 2 0\ngo 0 0\nask 1 5 12\nrun 24\n",
+    "feed 4 1 0\nfeed 6 2 0\ngo 0 0\nask 1 6 12\nrun 24\n",
+    "feed 4 1 0\nfeed 6 2 0\ngo 0 0\nask 1 6 13\nrun 24\n",
+    "feed 2 1 0\nfeed 4 2 0\ngo 0 0\nask 1 1 65536\nrun 8\n",
+    "feed 2 1 0\nfeed 4 2 0\ngo 0 0\nrest 1\nask 1 1 1\nrun 8\n",
+    "feed 4 4 0\ngo 0 0\nask 1 1 1\nrun 8\n",
+    "go 0 0\nask 1 3 4\nask 2 2 2\nrun 8\n",
+    "feed 40319 1 0\nfeed 2 1 0\ngo 0 0\n",
+    "feed 2 1 0\nfeed 3 2 0\ngo 0 0\n",
+    "go 1099511562240 0\nask 1 1 65536\nrun 2\n",
+    "go 1099511562240 0\nrun 1\nask 1 1 65536\nrun 2\n",
 ];
 
 /// Whole lines up to one byte less than the most, the most, and one more; then
@@ -921,7 +1063,7 @@ pub const BENCH: [&str; 14] = [
 fn at_the_size_limit() -> Vec<Vec<u8>> {
     let mut scripts = Vec::new();
     for size in [INPUT_MOST - 1, INPUT_MOST, INPUT_MOST + 1] {
-        let mut whole = b"go 0\n".to_vec();
+        let mut whole = b"go 0 0\n".to_vec();
         pad(&mut Random::of(0, size as u64), &mut whole, size);
         let mut cut = whole.clone();
         cut[size - 1] = b'7';

@@ -8,7 +8,7 @@ use crate::{ahead, mesh, reason};
 
 /// A reading of the clock, or a deadline.
 pub type Instant = u64;
-/// A work, a period, a lead.
+/// A work, a period, a lead, a charge.
 pub type Length = u64;
 
 pub const LAST_INSTANT: Instant = 1 << 40;
@@ -17,6 +17,7 @@ pub const JOBS_MOST: usize = 64;
 pub const FEEDS_MOST: usize = 16;
 pub const FEED_LENGTH_MOST: Length = 40_320;
 pub const ROUND_MOST: Length = 40_320;
+pub const CHARGE_MOST: Length = 16;
 
 /// The document's numbers, table "What each number says", and those of the
 /// requests that came after it.
@@ -37,10 +38,12 @@ pub const NOT_IN_ORDER: Refusal = 13;
 pub const FRONT_TOO_SHORT: Refusal = 15;
 pub const LENGTH_DISAGREES: Refusal = 16;
 pub const NO_TRIANGLES: Refusal = 17;
+pub const CHARGE_TOO_HIGH: Refusal = 18;
 
 #[derive(Clone, Copy, Debug, PartialEq, Eq)]
 pub struct Feed {
     pub period: Length,
+    /// Without the charge, as it was lent.
     pub work: Length,
     pub offset: Length,
     /// What the current piece still owes; 0 also while none has come.
@@ -58,6 +61,8 @@ pub struct Job {
 #[derive(Clone, Debug, PartialEq, Eq, Default)]
 pub struct Desk {
     pub clock: Instant,
+    /// What each job and each piece owes beside its work, once.
+    pub charge: Length,
     pub feeds: Vec<Feed>,
     pub jobs: Vec<Job>,
 }
@@ -101,6 +106,11 @@ pub enum Place {
 }
 
 impl Feed {
+    /// What a piece owes as it comes.
+    pub fn charged_work(&self, charge: Length) -> Length {
+        self.work + charge
+    }
+
     pub fn releases_at(&self, instant: Instant) -> bool {
         instant % self.period == self.offset
     }
@@ -149,8 +159,8 @@ fn feed_within_limits(feed: &Feed) -> bool {
         && feed.offset < feed.period
 }
 
-/// Lines 2, 9 and 10 of the opening, in that order.
-fn feeds_refusal(feeds: &[Feed]) -> Option<Refusal> {
+/// Lines 2, 9 and 10 of the opening, in that order; 10 is judged on charged work.
+fn feeds_refusal(feeds: &[Feed], charge: Length) -> Option<Refusal> {
     if !feeds.iter().all(feed_within_limits) {
         return Some(OUTSIDE_LIMITS);
     }
@@ -158,12 +168,14 @@ fn feeds_refusal(feeds: &[Feed]) -> Option<Refusal> {
         Some(round) => round,
         None => return Some(ROUND_TOO_LONG),
     };
-    let load: u64 = feeds.iter().map(|f| f.work * (round / f.period)).sum();
+    let wanted = |feed: &Feed| feed.charged_work(charge) * (round / feed.period);
+    let load: Length = feeds.iter().map(wanted).sum();
     (load > round).then_some(LOAD_TOO_HIGH)
 }
 
-/// Opening: 12, 8, 3, 2, 9, 10. (A refused opening's state is the default.)
-pub fn open(list: &[u32], start: Instant) -> Result<Desk, Refusal> {
+/// Opening: 12, 8, 3, 18, 2, 9, 10. (A refused opening's state is the default.)
+pub fn open(list: &[u32], start: Instant, charge: u32) -> Result<Desk, Refusal> {
+    let charge = Length::from(charge);
     if list.len() % 3 != 0 {
         return Err(LIST_NOT_IN_THREES);
     }
@@ -172,6 +184,9 @@ pub fn open(list: &[u32], start: Instant) -> Result<Desk, Refusal> {
     }
     if start > LAST_INSTANT {
         return Err(PAST_LAST_INSTANT);
+    }
+    if charge > CHARGE_MOST {
+        return Err(CHARGE_TOO_HIGH);
     }
     let mut feeds: Vec<Feed> = list
         .chunks(3)
@@ -182,17 +197,18 @@ pub fn open(list: &[u32], start: Instant) -> Result<Desk, Refusal> {
             owes: 0,
         })
         .collect();
-    if let Some(refusal) = feeds_refusal(&feeds) {
+    if let Some(refusal) = feeds_refusal(&feeds, charge) {
         return Err(refusal);
     }
     // Pieces from before the opening never were; one released now is ready.
     for feed in &mut feeds {
         if feed.releases_at(start) {
-            feed.owes = feed.work;
+            feed.owes = feed.charged_work(charge);
         }
     }
     Ok(Desk {
         clock: start,
+        charge,
         feeds,
         jobs: Vec::new(),
     })
@@ -202,16 +218,19 @@ impl Desk {
     /// "A state in order", but for unused places: this model has none, so the
     /// caller that reads a state out of fixed tables looks at those.
     pub fn in_order(&self) -> bool {
-        self.clock <= LAST_INSTANT && self.feeds_in_order() && self.jobs_in_order()
+        self.clock <= LAST_INSTANT
+            && self.charge <= CHARGE_MOST
+            && self.feeds_in_order()
+            && self.jobs_in_order()
     }
 
     fn feeds_in_order(&self) -> bool {
         self.feeds.len() <= FEEDS_MOST
-            && feeds_refusal(&self.feeds).is_none()
-            && self
-                .feeds
-                .iter()
-                .all(|feed| feed.owes <= feed.work && (feed.owes == 0 || self.clock >= feed.offset))
+            && feeds_refusal(&self.feeds, self.charge).is_none()
+            && self.feeds.iter().all(|feed| {
+                feed.owes <= feed.charged_work(self.charge)
+                    && (feed.owes == 0 || self.clock >= feed.offset)
+            })
     }
 
     fn jobs_in_order(&self) -> bool {
@@ -226,7 +245,7 @@ impl Desk {
             && self.jobs.iter().all(|job| {
                 job.number != 0
                     && numbered_once(job)
-                    && within(job.owed, 1, JOB_LENGTH_MOST)
+                    && within(job.owed, 1, JOB_LENGTH_MOST + self.charge)
                     && job.deadline > self.clock
                     && job.deadline - self.clock <= JOB_LENGTH_MOST
                     && job.deadline <= LAST_INSTANT
@@ -237,7 +256,7 @@ impl Desk {
         self.jobs.iter().position(|job| job.number == number)
     }
 
-    /// Asking: 13, 1, 2, 3, 4, 5, 6.
+    /// Asking: 13, 1, 2, 3, 4, 5, 6. The limits of work are without the charge.
     pub fn ask(&self, number: u32, work: u32, lead: u32) -> Result<Desk, Refusal> {
         let (work, lead) = (Length::from(work), Length::from(lead));
         if !self.in_order() {
@@ -261,7 +280,7 @@ impl Desk {
         let mut taken = self.clone();
         taken.jobs.push(Job {
             number,
-            owed: work,
+            owed: work + self.charge,
             deadline: self.clock + lead,
         });
         if ahead::never_late(&taken) {
@@ -332,7 +351,7 @@ impl Desk {
         for feed in &mut self.feeds {
             if feed.releases_at(self.clock) {
                 // A late piece gives way to the next.
-                feed.owes = feed.work;
+                feed.owes = feed.charged_work(self.charge);
             }
         }
         Ran { runner, owes }

@@ -19,6 +19,7 @@ pub fn read(desk: &Desk) -> Option<model::Desk> {
         && free_jobs.iter().all(|job| *job == Job::default());
     unused.then(|| model::Desk {
         clock: desk.clock,
+        charge: desk.charge,
         feeds: feeds.iter().map(model_feed).collect(),
         jobs: jobs.iter().map(model_job).collect(),
     })
@@ -56,6 +57,7 @@ fn model_job(job: &Job) -> model::Job {
 pub fn write(state: &model::Desk) -> Desk {
     let mut desk = Desk {
         clock: state.clock,
+        charge: state.charge,
         ..Desk::default()
     };
     desk.feeds.count = state.feeds.len();
@@ -111,8 +113,8 @@ fn answer(before: Desk, after: Result<model::Desk, Refusal>) -> Answer {
 pub struct Own;
 
 impl Library for Own {
-    fn open(&self, list: &[u32], start: u64) -> Answer {
-        answer(Desk::default(), model::open(list, start))
+    fn open(&self, list: &[u32], start: u64, charge: u32) -> Answer {
+        answer(Desk::default(), model::open(list, start, charge))
     }
 
     fn ask(&self, desk: Desk, number: u32, work: u32, lead: u32) -> Answer {

@@ -46,7 +46,7 @@ pub struct Owed {
 /// A feed as its pieces fall due.
 struct Stream {
     period: Length,
-    work: Length,
+    charged_work: Length,
     /// The next instant at which a piece of it falls due.
     due: Instant,
     /// What that piece owes: first the current one (nothing where none has
@@ -60,17 +60,18 @@ pub struct Instants {
     /// The live jobs, latest deadline first, so that the next is at the back.
     jobs: Vec<Job>,
     streams: Vec<Stream>,
-    /// The new job's deadline and work.
+    /// The new job's deadline and what it owes.
     new: (Instant, Length),
     /// The next instant at which anything falls due.
     soonest: Instant,
 }
 
 impl Instants {
-    pub fn after_the_clock(desk: &Desk, work: Length, lead: Length) -> Instants {
+    /// With a new job that owes this much within this lead.
+    pub fn after_the_clock(desk: &Desk, owes: Length, lead: Length) -> Instants {
         let stream = |feed: &Feed| Stream {
             period: feed.period,
-            work: feed.work,
+            charged_work: feed.charged_work(desk.charge),
             due: feed.next_release(desk.clock),
             owes: feed.owes,
         };
@@ -86,7 +87,7 @@ impl Instants {
             },
             jobs,
             streams: desk.feeds.iter().map(stream).collect(),
-            new: (desk.clock + lead, work),
+            new: (desk.clock + lead, owes),
             soonest: desk.clock,
         };
         instants.fall_due();
@@ -120,14 +121,14 @@ impl Instants {
         for stream in &mut self.streams {
             if stream.due == now.at {
                 feeds += stream.owes;
-                stream.owes = stream.work;
+                stream.owes = stream.charged_work;
                 stream.due += stream.period;
             }
             self.soonest = self.soonest.min(stream.due);
         }
-        let (deadline, work) = self.new;
+        let (deadline, owes) = self.new;
         if deadline == now.at {
-            job += work;
+            job += owes;
         } else if deadline > now.at {
             self.soonest = self.soonest.min(deadline);
         }
@@ -151,10 +152,11 @@ impl Iterator for Instants {
     }
 }
 
-/// The reason for a request that passed every line before 6.
+/// The reason for a request that passed every line before 6. The new job owes its
+/// work and the charge.
 pub fn reason(desk: &Desk, work: Length, lead: Length) -> Reason {
     let (mut at, mut margin) = (desk.clock, i64::MAX);
-    for owed in Instants::after_the_clock(desk, work, lead).take(FAR_ENOUGH) {
+    for owed in Instants::after_the_clock(desk, work + desk.charge, lead).take(FAR_ENOUGH) {
         if owed.margin < 0 {
             return Reason {
                 refusal: DOES_NOT_FIT,

@@ -11,7 +11,7 @@ const DIGITS_MOST: usize = 13;
 #[derive(Clone, Copy, Debug, PartialEq, Eq)]
 pub enum Line {
     Feed(u32, u32, u32),
-    Go(u64),
+    Go(u64, u32),
     Ask(u32, u32, u32),
     End(u32),
     Rest(u32),
@@ -27,7 +27,7 @@ pub fn read_line(line: &[u8]) -> Option<Line> {
         [b"feed", period, work, offset] => {
             Some(Line::Feed(number(period)?, number(work)?, number(offset)?))
         }
-        [b"go", start] => Some(Line::Go(digits(start)?)),
+        [b"go", start, charge] => Some(Line::Go(digits(start)?, number(charge)?)),
         [b"ask", job, work, lead] => Some(Line::Ask(number(job)?, number(work)?, number(lead)?)),
         [b"end", job] => Some(Line::End(number(job)?)),
         [b"rest", position] => Some(Line::Rest(number(position)?)),
@@ -92,9 +92,9 @@ pub fn rehearse(input: &[u8], out: &mut impl Write) -> io::Result<()> {
 fn allowed(stage: Stage, line: Line) -> Option<(Stage, Line)> {
     let fine = match (&stage, line) {
         (Stage::Gathering(list), Line::Feed(..)) => list.len() < 3 * FEED_LINES_MOST,
-        (Stage::Gathering(_), Line::Go(_)) => true,
+        (Stage::Gathering(_), Line::Go(..)) => true,
         (Stage::Gathering(_), _) => false,
-        (Stage::Open(_), Line::Feed(..) | Line::Go(_)) => false,
+        (Stage::Open(_), Line::Feed(..) | Line::Go(..)) => false,
         (Stage::Open(_), _) => true,
         (Stage::Stopped, _) => false,
     };
@@ -108,7 +108,7 @@ pub fn follow(stage: Stage, line: Line, out: &mut impl Write) -> io::Result<Stag
             list.extend([period, work, offset]);
             Ok(Stage::Gathering(list))
         }
-        (Stage::Gathering(list), Line::Go(start)) => go(&list, start, out),
+        (Stage::Gathering(list), Line::Go(start, charge)) => go(&list, start, charge, out),
         (Stage::Open(desk), line) => {
             let desk = call(desk, line, out)?;
             debug_assert!(desk.in_order());
@@ -118,8 +118,8 @@ pub fn follow(stage: Stage, line: Line, out: &mut impl Write) -> io::Result<Stag
     }
 }
 
-fn go(list: &[u32], start: u64, out: &mut impl Write) -> io::Result<Stage> {
-    match open(list, start) {
+fn go(list: &[u32], start: u64, charge: u32, out: &mut impl Write) -> io::Result<Stage> {
+    match open(list, start, charge) {
         Ok(desk) => {
             writeln!(out, "go ok")?;
             Ok(Stage::Open(desk))
@@ -146,7 +146,7 @@ fn call(desk: Desk, line: Line, out: &mut impl Write) -> io::Result<Desk> {
             say(out, "rest", "ok", desk, answer)
         }
         Line::Run(ticks) => run(desk, ticks, out),
-        Line::Feed(..) | Line::Go(_) => Ok(desk),
+        Line::Feed(..) | Line::Go(..) => Ok(desk),
     }
 }
 

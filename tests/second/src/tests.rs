@@ -1,17 +1,20 @@
 //! Tests of this program itself: the document's examples, each refusal, each
 //! kind of bad line, each band of a mesh, the reasons against a slower way of
 //! adding up, the rehearsal ahead against two slower ways of knowing, and the
-//! comparing of calls against libraries with one fault planted.
+//! comparing of calls against libraries with one fault planted. What the charge
+//! changes is in `charge`, but random states here are under any charge.
+
+mod charge;
 
 use crate::ahead;
 use crate::boundary::{self, Answer, Label, Library, Listed, Stepped};
 use crate::calls;
-use crate::invent::{least_that_fits, most_that_fits, BENCH};
+use crate::invent::{flood, least_that_fits, most_that_fits, BENCH};
 use crate::mesh;
 use crate::model::*;
 use crate::own::{read, write, Own};
 use crate::random::Random;
-use crate::reason::{reason, Instants, Owed, FAR_ENOUGH};
+use crate::reason::{Instants, Owed, FAR_ENOUGH};
 use crate::script::{rehearse, INPUT_MOST};
 use std::cell::{Cell, RefCell};
 use std::collections::BTreeSet;
@@ -23,14 +26,14 @@ fn said(input: &str) -> String {
 }
 
 fn x() -> Desk {
-    open(&[4, 1, 0, 6, 2, 0], 0).unwrap()
+    open(&[4, 1, 0, 6, 2, 0], 0, 0).unwrap()
 }
 
 // ---------------------------------------------------------------- the document
 
 #[test]
 fn the_documents_rehearsal() {
-    let input = "feed 4 1 0\nfeed 6 2 0\ngo 0\nask 1 3 6\nask 2 1 6\nrun 12\n";
+    let input = "feed 4 1 0\nfeed 6 2 0\ngo 0 0\nask 1 3 6\nask 2 1 6\nrun 12\n";
     let output = "go ok\nask 1 yes\nask 2 no 6\n0 feed 1\n1 job 1\n2 job 1\n3 job 1\n4 feed 2\n\
                   5 feed 2\n6 feed 1\n7 feed 2\n8 feed 1\n9 feed 2\n10 idle\n11 idle\n";
     assert_eq!(said(input), output);
@@ -49,29 +52,29 @@ fn bench_examples_on_x() {
 
 #[test]
 fn bench_examples_of_full_feeds() {
-    let full = open(&[2, 1, 0, 4, 2, 0], 0).unwrap();
+    let full = open(&[2, 1, 0, 4, 2, 0], 0, 0).unwrap();
     assert_eq!(full.ask(1, 1, 65_536).err(), Some(6));
     let rested = full.rest(1).unwrap();
     assert_eq!(rested.ask(1, 1, 1).err(), None);
-    assert_eq!(open(&[4, 4, 0], 0).unwrap().ask(1, 1, 1).err(), Some(6));
+    assert_eq!(open(&[4, 4, 0], 0, 0).unwrap().ask(1, 1, 1).err(), Some(6));
 }
 
 #[test]
 fn bench_example_of_two_jobs() {
-    let one = open(&[], 0).unwrap().ask(1, 3, 4).unwrap();
+    let one = open(&[], 0, 0).unwrap().ask(1, 3, 4).unwrap();
     assert_eq!(one.ask(2, 2, 2).err(), Some(6));
 }
 
 #[test]
 fn bench_examples_of_openings() {
-    assert_eq!(open(&[4, 1, 0, 6], 0).err(), Some(12));
-    assert_eq!(open(&[40_319, 1, 0, 2, 1, 0], 0).err(), Some(9));
-    assert_eq!(open(&[2, 1, 0, 3, 2, 0], 0).err(), Some(10));
+    assert_eq!(open(&[4, 1, 0, 6], 0, 0).err(), Some(12));
+    assert_eq!(open(&[40_319, 1, 0, 2, 1, 0], 0, 0).err(), Some(9));
+    assert_eq!(open(&[2, 1, 0, 3, 2, 0], 0, 0).err(), Some(10));
 }
 
 #[test]
 fn bench_example_at_the_end_of_time() {
-    let desk = open(&[], LAST_INSTANT - 65_536).unwrap();
+    let desk = open(&[], LAST_INSTANT - 65_536, 0).unwrap();
     assert_eq!(desk.ask(1, 1, 65_536).err(), None);
     let (later, _) = desk.step().unwrap();
     assert_eq!(later.ask(1, 1, 65_536).err(), Some(3));
@@ -110,10 +113,21 @@ fn bench_examples_as_scripts() {
 #[test]
 fn refusals_of_open_in_order() {
     let seventeen = [1u32; 51];
-    assert_eq!(open(&[1; 52], LAST_INSTANT + 1).err(), Some(12));
-    assert_eq!(open(&seventeen, LAST_INSTANT + 1).err(), Some(8));
-    assert_eq!(open(&[0, 0, 0], LAST_INSTANT + 1).err(), Some(3));
-    assert_eq!(open(&[40_319, 1, 0, 2, 0, 0], 0).err(), Some(2));
+    assert_eq!(open(&[1; 52], LAST_INSTANT + 1, 0).err(), Some(12));
+    assert_eq!(open(&seventeen, LAST_INSTANT + 1, 0).err(), Some(8));
+    assert_eq!(open(&[0, 0, 0], LAST_INSTANT + 1, 0).err(), Some(3));
+    assert_eq!(open(&[40_319, 1, 0, 2, 0, 0], 0, 0).err(), Some(2));
+    for (list, refusal) in [
+        (&[0, 0, 0, 1][..], 12),
+        (&seventeen, 8),
+        (&[0, 0, 0], 18),
+        (&[40_319, 1, 0, 2, 1, 0], 18),
+        (&[4, 5, 0], 18),
+        (&[], 18),
+    ] {
+        assert_eq!(open(list, 0, 17).err(), Some(refusal));
+    }
+    assert_eq!(open(&[0, 0, 0], LAST_INSTANT + 1, 17).err(), Some(3));
     for outside in [
         [0, 1, 0],
         [40_321, 1, 0],
@@ -121,12 +135,12 @@ fn refusals_of_open_in_order() {
         [4, 40_321, 0],
         [4, 1, 4],
     ] {
-        assert_eq!(open(&outside, 0).err(), Some(2));
+        assert_eq!(open(&outside, 0, 0).err(), Some(2));
     }
-    assert_eq!(open(&[40_319, 40_320, 0, 2, 2, 0], 0).err(), Some(9));
-    assert_eq!(open(&[4, 5, 0], LAST_INSTANT).err(), Some(10));
-    assert!(open(&[4, 4, 3], LAST_INSTANT).is_ok());
-    assert!(open(&[20, 1, 0].repeat(16), 0).is_ok());
+    assert_eq!(open(&[40_319, 40_320, 0, 2, 2, 0], 0, 0).err(), Some(9));
+    assert_eq!(open(&[4, 5, 0], LAST_INSTANT, 0).err(), Some(10));
+    assert!(open(&[4, 4, 3], LAST_INSTANT, 0).is_ok());
+    assert!(open(&[20, 1, 0].repeat(16), 0, 0).is_ok());
 }
 
 #[test]
@@ -134,20 +148,20 @@ fn refusals_of_ask_in_order() {
     let mut disordered = x();
     disordered.clock = LAST_INSTANT + 1;
     assert_eq!(disordered.ask(0, 0, 0).err(), Some(13));
-    let last = open(&[], LAST_INSTANT).unwrap();
+    let last = open(&[], LAST_INSTANT, 0).unwrap();
     assert_eq!(last.ask(0, 0, 0).err(), Some(1));
     for (work, lead) in [(0, 1), (1, 0), (65_537, 1), (1, 65_537)] {
         assert_eq!(last.ask(1, work, lead).err(), Some(2));
     }
     assert_eq!(last.ask(1, 1, 1).err(), Some(3));
-    let one = open(&[], LAST_INSTANT - 10)
+    let one = open(&[], LAST_INSTANT - 10, 0)
         .unwrap()
         .ask(1, 10, 10)
         .unwrap();
     assert_eq!(one.ask(1, 1, 11).err(), Some(3));
     assert_eq!(one.ask(1, 9, 1).err(), Some(4));
     assert_eq!(one.ask(2, 1, 10).err(), Some(6));
-    let mut full = open(&[], 0).unwrap();
+    let mut full = open(&[], 0, 0).unwrap();
     for number in 1..=64 {
         full = full.ask(number, 1, 100).unwrap();
     }
@@ -157,14 +171,14 @@ fn refusals_of_ask_in_order() {
 
 #[test]
 fn refusals_elsewhere() {
-    let last = open(&[4, 1, 0], LAST_INSTANT).unwrap();
+    let last = open(&[4, 1, 0], LAST_INSTANT, 0).unwrap();
     assert_eq!(last.step().err(), Some(3));
     assert_eq!(last.end(0).err(), Some(7));
     assert_eq!(last.rest(0).err(), Some(7));
     assert_eq!(last.rest(2).err(), Some(7));
     let rested = last.rest(1).unwrap();
     assert_eq!(rested.rest(1).err(), Some(7));
-    let not_come = open(&[4, 1, 3], 0).unwrap();
+    let not_come = open(&[4, 1, 3], 0, 0).unwrap();
     assert_eq!(not_come.rest(1).err(), Some(7));
     let one = x().ask(9, 1, 50).unwrap();
     assert_eq!(one.list(&mut [0; 2]).err(), Some(11));
@@ -201,7 +215,7 @@ const BANDS: [(u32, u32, u32); 6] = [
 
 #[test]
 fn each_band_at_both_its_ends() {
-    let desk = open(&[], 0).unwrap();
+    let desk = open(&[], 0, 0).unwrap();
     for (from, to, ticks) in BANDS {
         for triangles in [from, to] {
             let taken = desk
@@ -301,7 +315,7 @@ fn refusals_of_a_mesh_in_order() {
     assert_eq!(disordered.ask_mesh(&some, 585, 0, 0).err(), Some(13));
     assert_eq!(disordered.ask_mesh(&none, 84, 0, 0).err(), Some(13));
     assert_eq!(disordered.ask_mesh(&some, 584, 1, 9).err(), Some(13));
-    let last = open(&[], LAST_INSTANT).unwrap();
+    let last = open(&[], LAST_INSTANT, 0).unwrap();
     assert_eq!(last.ask_mesh(&none[..83], 83, 0, 0).err(), Some(15));
     assert_eq!(last.ask_mesh(&none, 83, 0, 0).err(), Some(16));
     assert_eq!(last.ask_mesh(&some, 583, 0, 0).err(), Some(16));
@@ -310,12 +324,15 @@ fn refusals_of_a_mesh_in_order() {
     assert_eq!(last.ask_mesh(&some, 584, 1, 0).err(), Some(2));
     assert_eq!(last.ask_mesh(&some, 584, 1, 65_537).err(), Some(2));
     assert_eq!(last.ask_mesh(&some, 584, 1, 1).err(), Some(3));
-    let one = open(&[], LAST_INSTANT - 10).unwrap().ask(1, 7, 10).unwrap();
+    let one = open(&[], LAST_INSTANT - 10, 0)
+        .unwrap()
+        .ask(1, 7, 10)
+        .unwrap();
     assert_eq!(one.ask_mesh(&none, 84, 1, 10).err(), Some(17));
     assert_eq!(one.ask_mesh(&some, 584, 1, 11).err(), Some(3));
     assert_eq!(one.ask_mesh(&some, 584, 1, 10).err(), Some(4));
     assert_eq!(one.ask_mesh(&some, 584, 2, 10).err(), Some(6));
-    let mut full = open(&[], 0).unwrap();
+    let mut full = open(&[], 0, 0).unwrap();
     for number in 1..=64 {
         full = full.ask_mesh(&some, 584, number, 256).unwrap();
     }
@@ -385,7 +402,7 @@ fn reasons_on_x() {
 
 #[test]
 fn reasons_of_full_feeds() {
-    let full = open(&[2, 1, 0, 4, 2, 0], 0).unwrap();
+    let full = open(&[2, 1, 0, 4, 2, 0], 0, 0).unwrap();
     // Every fourth instant has margin 0 without it: the first of them that it is
     // owed by is overbooked.
     assert_eq!(full.why(1, 1, 65_536), overbooked(65_536, 0, 65_536, 1, -1));
@@ -397,17 +414,17 @@ fn reasons_of_full_feeds() {
     assert_eq!(rested.why(1, 1, 65_536), tightest(0, 65_536));
     assert_eq!(rested.why(1, 1, 65_535), tightest(0, 65_536));
     assert_eq!(rested.why(1, 1, 4), tightest(0, 4));
-    let whole = open(&[4, 4, 0], 0).unwrap();
+    let whole = open(&[4, 4, 0], 0, 0).unwrap();
     assert_eq!(whole.why(1, 1, 1), overbooked(4, 0, 4, 1, -1));
 }
 
 #[test]
 fn reasons_of_jobs_alone() {
-    let desk = open(&[], 0).unwrap();
+    let desk = open(&[], 0, 0).unwrap();
     assert_eq!(desk.why(1, 1, 65_536), tightest(1, 1));
     assert_eq!(desk.why(1, 65_535, 65_536), tightest(1, 1));
     assert_eq!(desk.why(1, 65_536, 65_536), tightest(0, 65_536));
-    let later = open(&[], 1_000_000).unwrap();
+    let later = open(&[], 1_000_000, 0).unwrap();
     assert_eq!(later.why(1, 1, 65_536), tightest(1, 1_000_001));
     assert_eq!(later.why(1, 1, 1), tightest(0, 1_000_001));
     let one = desk.ask(1, 3, 4).unwrap();
@@ -428,20 +445,20 @@ fn reasons_of_jobs_alone() {
 /// before the first has come.
 #[test]
 fn reasons_with_pieces_that_ran_or_have_not_come() {
-    let (desk, ran) = open(&[10, 4, 0], 0).unwrap().step().unwrap();
+    let (desk, ran) = open(&[10, 4, 0], 0, 0).unwrap().step().unwrap();
     assert_eq!(ran.owes, 3);
     assert_eq!(desk.why(1, 6, 9), tightest(0, 10));
     assert_eq!(desk.why(1, 7, 9), overbooked(10, 0, 3, 7, -1));
     // Both clocks are before the piece of instant 7, due at 17.
     for clock in [0, 6] {
-        let desk = open(&[10, 10, 7], clock).unwrap();
+        let desk = open(&[10, 10, 7], clock, 0).unwrap();
         let room = 7 - clock as u32;
         assert_eq!(desk.why(1, room, room), tightest(0, 7));
         let why = desk.why(1, room + 1, room + 1);
         assert_eq!(why, overbooked(17, 0, 10, 8 - clock, -1));
     }
     // Opened in mid-period: the piece of instant 7 never was.
-    let desk = open(&[10, 10, 7], 8).unwrap();
+    let desk = open(&[10, 10, 7], 8, 0).unwrap();
     assert_eq!(desk.why(1, 9, 9), tightest(0, 17));
     assert_eq!(desk.why(1, 10, 10), overbooked(27, 0, 10, 10, -1));
 }
@@ -451,7 +468,7 @@ fn reasons_with_pieces_that_ran_or_have_not_come() {
 fn a_reason_long_after_the_last_job() {
     let rested = |start: u64| {
         let feed = [40_320, 40_320, (start % 40_320) as u32];
-        open(&feed, start).unwrap().rest(1).unwrap()
+        open(&feed, start, 0).unwrap().rest(1).unwrap()
     };
     for start in [0, 12_345, LAST_INSTANT - 65_536] {
         let (desk, at) = (rested(start), start + 80_640);
@@ -472,7 +489,7 @@ fn a_reason_long_after_the_last_job() {
 fn a_reason_as_late_as_can_be() {
     for start in [0, 12_345, LAST_INSTANT - 65_536] {
         let offset = (start + 65_535) % 40_320;
-        let desk = open(&[40_320, 40_320, offset as u32], start).unwrap();
+        let desk = open(&[40_320, 40_320, offset as u32], start, 0).unwrap();
         let at = start + 65_536 + 40_320 - 1;
         assert_eq!(desk.why(1, 25_215, 65_536), tightest(0, at));
         let why = desk.why(1, 25_216, 65_536);
@@ -482,7 +499,7 @@ fn a_reason_as_late_as_can_be() {
 
 #[test]
 fn reasons_past_the_last_instant() {
-    let desk = open(&[10, 10, 7], LAST_INSTANT - 2).unwrap();
+    let desk = open(&[10, 10, 7], LAST_INSTANT - 2, 0).unwrap();
     // 2^40 leaves 6 when divided by 10, so that pieces come at 2^40 + 1 and so on.
     assert_eq!(LAST_INSTANT % 10, 6);
     assert_eq!(desk.why(1, 1, 1), tightest(0, LAST_INSTANT - 1));
@@ -492,12 +509,12 @@ fn reasons_past_the_last_instant() {
     assert_eq!(why, overbooked(LAST_INSTANT, 0, 0, 3, -1));
     let (desk, _) = desk.ask(1, 2, 2).unwrap().step().unwrap();
     assert_eq!(desk.why(2, 1, 1), overbooked(LAST_INSTANT, 1, 0, 1, -1));
-    let full = open(&[8, 8, 0], LAST_INSTANT - 1).unwrap();
+    let full = open(&[8, 8, 0], LAST_INSTANT - 1, 0).unwrap();
     assert_eq!(LAST_INSTANT % 8, 0);
     assert_eq!(full.why(1, 1, 1), tightest(0, LAST_INSTANT));
-    let full = open(&[8, 8, 1], LAST_INSTANT - 1).unwrap();
+    let full = open(&[8, 8, 1], LAST_INSTANT - 1, 0).unwrap();
     assert_eq!(full.why(1, 1, 1), tightest(0, LAST_INSTANT));
-    let mut full = open(&[8, 4, 1, 8, 4, 3], LAST_INSTANT - 6).unwrap();
+    let mut full = open(&[8, 4, 1, 8, 4, 3], LAST_INSTANT - 6, 0).unwrap();
     while full.clock < LAST_INSTANT - 1 {
         full = full.step().unwrap().0;
     }
@@ -525,7 +542,7 @@ fn other_refusals_come_with_their_number_alone() {
     disordered.clock = LAST_INSTANT + 1;
     assert_eq!(disordered.why(0, 0, 0), alone(13));
     assert_eq!(disordered.why(1, 1, 1), alone(13));
-    let last = open(&[4, 4, 0], LAST_INSTANT).unwrap();
+    let last = open(&[4, 4, 0], LAST_INSTANT, 0).unwrap();
     assert_eq!(last.why(0, 0, 0), alone(1));
     assert_eq!(last.why(1, 0, 1), alone(2));
     assert_eq!(last.why(1, 1, 0), alone(2));
@@ -534,7 +551,7 @@ fn other_refusals_come_with_their_number_alone() {
     assert_eq!(last.why(1, 1, 1), alone(3));
     let one = x().ask(1, 1, 6).unwrap();
     assert_eq!(one.why(1, 65_536, 1), alone(4));
-    let mut full = open(&[], 0).unwrap();
+    let mut full = open(&[], 0, 0).unwrap();
     for number in 1..=64 {
         full = full.ask(number, 1, 64).unwrap();
     }
@@ -562,6 +579,7 @@ fn reasons_on_an_overbooked_state() {
     };
     let desk = Desk {
         clock: 10,
+        charge: 0,
         feeds: x().feeds,
         jobs: vec![job(5, 9, 20), job(4, 3, 12), job(6, 1, 11)],
     };
@@ -574,6 +592,7 @@ fn reasons_on_an_overbooked_state() {
     let jobs = (1..=63).map(|number| job(number, 65_536, LAST_INSTANT));
     let most = Desk {
         clock: LAST_INSTANT - 1,
+        charge: 0,
         feeds: Vec::new(),
         jobs: jobs.collect(),
     };
@@ -582,8 +601,9 @@ fn reasons_on_an_overbooked_state() {
     assert_eq!(why, overbooked(LAST_INSTANT, all, 0, 65_536, margin));
 }
 
-/// All that is owed by an instant, added up afresh, piece after piece.
-fn owed_by(desk: &Desk, work: u64, lead: u64, at: Instant) -> Owed {
+/// All that is owed by an instant, added up afresh, piece after piece; the new job
+/// owes this much.
+fn owed_by(desk: &Desk, owes: u64, lead: u64, at: Instant) -> Owed {
     let live = desk.jobs.iter().filter(|job| job.deadline <= at);
     let jobs = live.map(|job| job.owed).sum();
     let mut feeds = 0;
@@ -593,11 +613,11 @@ fn owed_by(desk: &Desk, work: u64, lead: u64, at: Instant) -> Owed {
             feeds += feed.owes;
         }
         while release + feed.period <= at {
-            feeds += feed.work;
+            feeds += feed.work + desk.charge;
             release += feed.period;
         }
     }
-    let job = if desk.clock + lead <= at { work } else { 0 };
+    let job = if desk.clock + lead <= at { owes } else { 0 };
     Owed {
         at,
         jobs,
@@ -619,10 +639,11 @@ fn reasons_agree_with_adding_up_afresh() {
         let lead = random.between(1, room);
         let work = random.between(1, lead / 2 + 1);
         let why = desk.why(9, work as u32, lead as u32);
+        let owes = work + desk.charge;
         let all: Vec<Owed> = (1..=400)
-            .map(|time| owed_by(&desk, work, lead, desk.clock + time))
+            .map(|time| owed_by(&desk, owes, lead, desk.clock + time))
             .collect();
-        let instants = Instants::after_the_clock(&desk, work, lead);
+        let instants = Instants::after_the_clock(&desk, owes, lead);
         assert!(instants.take(400).eq(all.iter().copied()), "{desk:?}");
         let expected = match all.iter().find(|owed| owed.margin < 0) {
             Some(o) => overbooked(o.at, o.jobs, o.feeds, o.job, o.margin),
@@ -655,7 +676,7 @@ fn far_enough_has_a_round_to_spare() {
 
 #[test]
 fn equal_deadlines_go_by_rank() {
-    let desk = open(&[6, 1, 0, 6, 1, 0], 0)
+    let desk = open(&[6, 1, 0, 6, 1, 0], 0, 0)
         .unwrap()
         .ask(7, 1, 6)
         .unwrap()
@@ -680,7 +701,7 @@ fn equal_deadlines_go_by_rank() {
 
 #[test]
 fn an_opening_in_mid_period_waits_for_the_next_piece() {
-    let desk = open(&[10, 10, 7], 8).unwrap();
+    let desk = open(&[10, 10, 7], 8, 0).unwrap();
     assert_eq!(desk.feeds[0].owes, 0);
     assert!(desk.ask(1, 9, 9).is_ok());
     assert_eq!(desk.ask(1, 10, 10).err(), Some(6));
@@ -688,7 +709,7 @@ fn an_opening_in_mid_period_waits_for_the_next_piece() {
 
 #[test]
 fn a_step_tells_what_is_owed_before_a_release() {
-    let (next, ran) = open(&[1, 1, 0], 0).unwrap().step().unwrap();
+    let (next, ran) = open(&[1, 1, 0], 0, 0).unwrap().step().unwrap();
     assert_eq!(
         ran,
         Ran {
@@ -706,15 +727,16 @@ fn a_late_job_stays_and_a_late_piece_gives_way() {
         owed: 2,
         deadline,
     };
-    let feeds = vec![Feed {
+    let feed = Feed {
         period: 2,
         work: 2,
         offset: 0,
         owes: 2,
-    }];
+    };
     let desk = Desk {
         clock: 0,
-        feeds,
+        charge: 0,
+        feeds: vec![feed],
         jobs: vec![job(5, 1), job(4, 1)],
     };
     assert!(desk.in_order());
@@ -729,15 +751,10 @@ fn a_late_job_stays_and_a_late_piece_gives_way() {
     );
     assert_eq!(late.jobs.len(), 2);
     assert!(!late.in_order());
-    let feeds = vec![Feed {
-        period: 2,
-        work: 2,
-        offset: 0,
-        owes: 2,
-    }];
     let desk = Desk {
         clock: 1,
-        feeds,
+        charge: 0,
+        feeds: vec![feed],
         jobs: vec![],
     };
     let (next, ran) = desk.step().unwrap();
@@ -747,7 +764,7 @@ fn a_late_job_stays_and_a_late_piece_gives_way() {
 
 #[test]
 fn numbers_and_places_are_used_again_in_the_order_of_yes() {
-    let mut desk = open(&[], 0).unwrap();
+    let mut desk = open(&[], 0, 0).unwrap();
     for number in [5, 4, 3] {
         desk = desk.ask(number, 2, 20).unwrap();
     }
@@ -784,7 +801,7 @@ fn listing_and_labels() {
     assert_eq!(x().label(&[], &[1; 8]), Place::InFeedLabels(0));
     assert_eq!(x().label(&[], &[1; 7]), Place::Empty);
     assert_eq!(
-        open(&[4, 1, 0], LAST_INSTANT)
+        open(&[4, 1, 0], LAST_INSTANT, 0)
             .unwrap()
             .label(&records, &[1; 8]),
         Place::Empty
@@ -795,51 +812,51 @@ fn listing_and_labels() {
     );
 }
 
-/// A state in order, damaged in each way that the document names.
+/// Each way to damage a state that the document names.
+const DAMAGES: [fn(&mut Desk); 18] = [
+    |desk| desk.clock = LAST_INSTANT + 1,
+    |desk| desk.charge = 17,
+    |desk| desk.charge = 2,
+    |desk| {
+        desk.feeds.extend(vec![
+            Feed {
+                period: 40_320,
+                work: 1,
+                offset: 0,
+                owes: 0
+            };
+            15
+        ])
+    },
+    |desk| desk.feeds[0].period = 0,
+    |desk| desk.feeds[0].period = 40_319,
+    |desk| desk.feeds[0].work = 3,
+    |desk| desk.feeds[0].offset = 4,
+    |desk| desk.feeds[0].owes = 2,
+    |desk| desk.jobs[0].number = 0,
+    |desk| desk.jobs[0].number = 2,
+    |desk| desk.jobs[0].owed = 0,
+    |desk| desk.jobs[0].owed = 65_537,
+    |desk| desk.jobs[0].deadline = 8,
+    |desk| desk.jobs[0].deadline = 8 + 65_537,
+    |desk| desk.jobs[0].deadline = u64::MAX,
+    |desk| {
+        desk.clock = 4;
+        desk.jobs.clear()
+    },
+    |desk| desk.jobs = vec![desk.jobs[0]; 65],
+];
+
 #[test]
 fn damaged_states_are_not_in_order() {
-    let good = open(&[4, 1, 0, 6, 2, 5], 8)
+    let good = open(&[4, 1, 0, 6, 2, 5], 8, 0)
         .unwrap()
         .ask(1, 2, 20)
         .unwrap()
         .ask(2, 2, 30)
         .unwrap();
     assert!(good.in_order());
-    let damages: [fn(&mut Desk); 16] = [
-        |desk| desk.clock = LAST_INSTANT + 1,
-        |desk| {
-            desk.feeds.extend(vec![
-                Feed {
-                    period: 40_320,
-                    work: 1,
-                    offset: 0,
-                    owes: 0
-                };
-                15
-            ])
-        },
-        |desk| desk.feeds[0].period = 0,
-        |desk| desk.feeds[0].period = 40_319,
-        |desk| desk.feeds[0].work = 3,
-        |desk| desk.feeds[0].offset = 4,
-        |desk| desk.feeds[0].owes = 2,
-        |desk| desk.jobs[0].number = 0,
-        |desk| desk.jobs[0].number = 2,
-        |desk| desk.jobs[0].owed = 0,
-        |desk| desk.jobs[0].owed = 65_537,
-        |desk| desk.jobs[0].deadline = 8,
-        |desk| desk.jobs[0].deadline = 8 + 65_537,
-        |desk| desk.jobs[0].deadline = u64::MAX,
-        |desk| {
-            *desk = Desk {
-                clock: 4,
-                feeds: desk.feeds.clone(),
-                jobs: vec![],
-            }
-        },
-        |desk| desk.jobs = vec![desk.jobs[0]; 65],
-    ];
-    for (which, damage) in damages.iter().enumerate() {
+    for (which, damage) in DAMAGES.iter().enumerate() {
         let mut desk = good.clone();
         desk.feeds[1].owes = 1;
         assert!(desk.in_order());
@@ -866,72 +883,80 @@ fn unused_places_must_be_zero() {
 
 // ---------------------------------------------------------------- the program
 
+/// Bad before `go`.
+const BAD_BEFORE_GO: [&str; 38] = [
+    "",
+    " ",
+    "go",
+    "go ",
+    "go 0",
+    "go 0 ",
+    " go 0 0",
+    "go  0 0",
+    "go 0  0",
+    "go 0 0 ",
+    "go 00 0",
+    "go 01 0",
+    "go 0 00",
+    "go 0 01",
+    "go -1 0",
+    "go +1 0",
+    "go 0 -1",
+    "go 10000000000000 0",
+    "go 0 4294967296",
+    "go 0 10000000000000",
+    "go 0 0 0",
+    "Go 0 0",
+    "feed 4 1",
+    "feed 4 1 0 0",
+    "feed 04 1 0",
+    "feed 4294967296 1 0",
+    "feed 4 4294967296 0",
+    "feed 4 1 4294967296",
+    "word",
+    "go 0 0\r",
+    "go\t0 0",
+    "go 0\t0",
+    "ask 1 1 1",
+    "end 1",
+    "rest 1",
+    "run 1",
+    "go 1a 0",
+    "go 0 1a",
+];
+
+/// Bad after it.
+const BAD_AFTER_GO: [&str; 19] = [
+    "",
+    "ask 1 1",
+    "ask 1 1 1 1",
+    "ask 4294967296 1 1",
+    "ask 1 4294967296 1",
+    "ask 1 1 4294967296",
+    "ask 01 1 1",
+    "end",
+    "end 1 1",
+    "end 4294967296",
+    "rest",
+    "rest 4294967296",
+    "run",
+    "run 4097",
+    "run 04",
+    "go 0 0",
+    "feed 4 1 0",
+    "run 1 ",
+    "list",
+];
+
 #[test]
 fn bad_lines() {
-    let bad = [
-        "",
-        " ",
-        "go",
-        "go ",
-        " go 0",
-        "go  0",
-        "go 0 ",
-        "go 00",
-        "go 01",
-        "go -1",
-        "go +1",
-        "go 10000000000000",
-        "go 0 0",
-        "Go 0",
-        "feed 4 1",
-        "feed 4 1 0 0",
-        "feed 04 1 0",
-        "feed 4294967296 1 0",
-        "feed 4 4294967296 0",
-        "feed 4 1 4294967296",
-        "word",
-        "go 0\r",
-        "go\t0",
-        "ask 1 1 1",
-        "end 1",
-        "rest 1",
-        "run 1",
-        "go 1a",
-    ];
-    for line in bad {
-        assert_eq!(
-            said(&format!("feed 4 1 0\n{line}\ngo 0\n")),
-            "line 2 bad\n",
-            "{line:?}"
-        );
+    for line in BAD_BEFORE_GO {
+        let output = said(&format!("feed 4 1 0\n{line}\ngo 0 0\n"));
+        assert_eq!(output, "line 2 bad\n", "{line:?}");
     }
-    let bad = [
-        "",
-        "ask 1 1",
-        "ask 1 1 1 1",
-        "ask 4294967296 1 1",
-        "ask 1 4294967296 1",
-        "ask 1 1 4294967296",
-        "ask 01 1 1",
-        "end",
-        "end 1 1",
-        "end 4294967296",
-        "rest",
-        "rest 4294967296",
-        "run",
-        "run 4097",
-        "run 04",
-        "go 0",
-        "feed 4 1 0",
-        "run 1 ",
-        "list",
-    ];
-    for line in bad {
-        assert_eq!(
-            said(&format!("go 0\n{line}\nrun 1\n")),
-            "go ok\nline 2 bad\n",
-            "{line:?}"
-        );
+    for line in BAD_AFTER_GO {
+        let output = said(&format!("go 0 0\n{line}\nrun 1\n"));
+        assert_eq!(output, "go ok\nline 2 bad\n", "{line:?}");
     }
 }
 
@@ -939,30 +964,30 @@ fn bad_lines() {
 fn good_lines_at_their_limits() {
     assert_eq!(said(""), "");
     assert_eq!(said("feed 4294967295 4294967295 4294967295\n"), "");
-    assert_eq!(said("feed 4294967295 1 0\ngo 0\n\n"), "go no 2\n");
+    assert_eq!(said("feed 4294967295 1 0\ngo 0 0\n\n"), "go no 2\n");
     assert_eq!(
-        said("go 1099511627776\nrun 0\nrun 2\nend 0\n"),
+        said("go 1099511627776 0\nrun 0\nrun 2\nend 0\n"),
         "go ok\nrun no 3\nend no 7\n"
     );
-    assert_eq!(said("go 1099511627777\n"), "go no 3\n");
-    assert_eq!(said("go 9999999999999\nbad"), "go no 3\n");
+    assert_eq!(said("go 1099511627777 0\n"), "go no 3\n");
+    assert_eq!(said("go 9999999999999 0\nbad"), "go no 3\n");
     assert_eq!(
-        said("go 1099511627775\nrun 4096\n"),
+        said("go 1099511627775 0\nrun 4096\n"),
         "go ok\n1099511627775 idle\nrun no 3\n"
     );
-    let high = "go 0\nask 4294967295 1 1\nask 0 1 1\nend 4294967295\nrest 4294967295\n";
+    let high = "go 0 0\nask 4294967295 1 1\nask 0 1 1\nend 4294967295\nrest 4294967295\n";
     assert_eq!(
         said(high),
         "go ok\nask 4294967295 yes\nask 0 no 1\nend ok\nrest no 7\n"
     );
-    assert_eq!(said("go 0\nrun 4096\n").lines().count(), 4_097);
+    assert_eq!(said("go 0 0\nrun 4096\n").lines().count(), 4_097);
 }
 
 #[test]
 fn the_last_newline_and_the_count_of_feeds() {
-    assert_eq!(said("go 0"), "line 1 bad\n");
-    assert_eq!(said("go 0\nrun 1"), "go ok\nline 2 bad\n");
-    let feeds = |count| "feed 20 1 0\n".repeat(count) + "go 0\n";
+    assert_eq!(said("go 0 0"), "line 1 bad\n");
+    assert_eq!(said("go 0 0\nrun 1"), "go ok\nline 2 bad\n");
+    let feeds = |count| "feed 20 1 0\n".repeat(count) + "go 0 0\n";
     assert_eq!(said(&feeds(16)), "go ok\n");
     assert_eq!(said(&feeds(17)), "go no 8\n");
     assert_eq!(said(&feeds(18)), "line 18 bad\n");
@@ -970,7 +995,7 @@ fn the_last_newline_and_the_count_of_feeds() {
 
 #[test]
 fn too_long() {
-    let mut input = String::from("go 0\n");
+    let mut input = String::from("go 0 0\n");
     while input.len() + 7 <= INPUT_MOST {
         input += "rest 0\n";
     }
@@ -980,9 +1005,18 @@ fn too_long() {
     assert_eq!(said(&(exact + "\n")), "too long\n");
 }
 
+/// Else it would be answered in one line, or not to its end.
+#[test]
+fn the_flood_is_just_not_too_long() {
+    let input = flood();
+    assert_eq!(input.len(), INPUT_MOST);
+    assert!(input.ends_with(b"\n"));
+}
+
 #[test]
 fn reuse_ends_and_rests_in_a_script() {
-    let input = "feed 4 2 1\ngo 2\nask 1 2 3\nask 1 1 9\nrun 2\nask 1 2 3\nrest 1\nrun 1\nrest 1\n\
+    let input =
+        "feed 4 2 1\ngo 2 0\nask 1 2 3\nask 1 1 9\nrun 2\nask 1 2 3\nrest 1\nrun 1\nrest 1\n\
                  rest 1\nend 1\nend 1\nrun 2\n";
     let output = "go ok\nask 1 yes\nask 1 no 4\n2 job 1\n3 job 1\nask 1 yes\nrest no 7\n4 job 1\n\
                   rest ok\nrest no 7\nend ok\nend no 7\n5 idle\n6 idle\n";
@@ -1030,7 +1064,7 @@ fn choice_exists(desk: &Desk, last: Instant) -> bool {
         let mut release = feed.next_release(desk.clock);
         add(feed.owes, desk.clock, release);
         while release < last {
-            add(feed.work, release, release + feed.period);
+            add(feed.work + desk.charge, release, release + feed.period);
             release += feed.period;
         }
     }
@@ -1057,9 +1091,11 @@ fn give(
     false
 }
 
-/// Small states in order, reachable or not, with loads up to full.
+/// Small states in order, reachable or not, with loads up to full, half of them
+/// under a charge.
 fn small_state(random: &mut Random, periods: &[u64], lead: u64) -> Desk {
     loop {
+        let charge = random.pick(&[0, 0, 0, 1, 2, 5]);
         let feeds = (0..random.below(4)).map(|_| {
             let period = random.pick(periods);
             let work = random.between(1, period);
@@ -1067,7 +1103,7 @@ fn small_state(random: &mut Random, periods: &[u64], lead: u64) -> Desk {
                 period,
                 work,
                 offset: random.below(period),
-                owes: random.below(work + 1),
+                owes: random.below(work + charge + 1),
             }
         });
         let feeds = feeds.collect();
@@ -1082,7 +1118,12 @@ fn small_state(random: &mut Random, periods: &[u64], lead: u64) -> Desk {
             }
         });
         let jobs = jobs.collect();
-        let desk = Desk { clock, feeds, jobs };
+        let desk = Desk {
+            clock,
+            charge,
+            feeds,
+            jobs,
+        };
         if desk.in_order() {
             return desk;
         }
@@ -1149,9 +1190,9 @@ fn what_just_fits() {
 /// Lateness in the very last stretch that the comment in `ahead` allows for.
 #[test]
 fn lateness_can_come_long_after_the_last_job() {
-    let desk = open(&[2, 1, 0, 40_320, 20_160, 0], 0).unwrap();
+    let desk = open(&[2, 1, 0, 40_320, 20_160, 0], 0, 0).unwrap();
     assert_eq!(desk.ask(1, 1, 1).err(), Some(6));
-    let desk = open(&[2, 1, 0, 40_320, 20_159, 0], 0).unwrap();
+    let desk = open(&[2, 1, 0, 40_320, 20_159, 0], 0, 0).unwrap();
     assert_eq!(desk.ask(1, 1, 2).err(), None);
     assert_eq!(desk.ask(1, 2, 4).err(), Some(6));
 }
@@ -1165,8 +1206,8 @@ struct Faulty(u32);
 type State = crate::boundary::Desk;
 
 impl Library for Faulty {
-    fn open(&self, list: &[u32], start: u64) -> Answer {
-        let mut answer = Own.open(list, start);
+    fn open(&self, list: &[u32], start: u64, charge: u32) -> Answer {
+        let mut answer = Own.open(list, start, charge);
         if self.0 == 1 && answer.refusal != 0 {
             answer.desk.clock = start;
         }
@@ -1284,10 +1325,11 @@ fn faulty_mesh(fault: u32, desk: State, head: &[u8], size: u64, number: u32, lea
     answer
 }
 
-/// The instants that a right library goes through, and what is owed by each.
-fn gone_through(desk: &State, work: u32, lead: u32) -> impl Iterator<Item = Owed> {
+/// The instants that a right library goes through, and what is owed by each, with
+/// a new job that owes this much.
+fn gone_through(desk: &State, owes: u64, lead: u32) -> impl Iterator<Item = Owed> {
     let state = read(desk).unwrap();
-    Instants::after_the_clock(&state, work.into(), lead.into()).take(FAR_ENOUGH)
+    Instants::after_the_clock(&state, owes, lead.into()).take(FAR_ENOUGH)
 }
 
 /// Wrong by this fault where the request would be taken.
@@ -1298,7 +1340,7 @@ fn faulty_tightest(
     lead: u32,
     right: boundary::Reason,
 ) -> boundary::Reason {
-    let all = || gone_through(&desk, work, lead);
+    let all = || gone_through(&desk, u64::from(work) + desk.charge, lead);
     let first_least = |among: &mut dyn Iterator<Item = Owed>| {
         let least = among.min_by_key(|owed| owed.margin).unwrap();
         boundary::Reason {
@@ -1370,8 +1412,9 @@ fn faulty_overbooked(
         job: owed.job,
         margin: owed.margin,
     };
-    let all = gone_through(&desk, work, lead);
-    let before = || reason(&state, 0, lead.into()).refusal == DOES_NOT_FIT;
+    let owes = u64::from(work) + desk.charge;
+    let all = gone_through(&desk, owes, lead);
+    let before = || !ahead::never_late(&state);
     let mut why = right;
     match fault {
         70 => why.at += 1,
@@ -1392,7 +1435,7 @@ fn faulty_overbooked(
         82 => return all.filter(|o| o.margin < 0).nth(1).map_or(why, told),
         // All that is promised, due by then or not.
         83 => why.jobs = state.jobs.iter().map(|job| job.owed).sum(),
-        84 => why.job = work.into(),
+        84 => why.job = owes,
         85 => {
             let waiting = |feed: &&Feed| feed.next_release(desk.clock) > why.at;
             let current = state.feeds.iter().filter(waiting);
@@ -1403,10 +1446,10 @@ fn faulty_overbooked(
             let mut state = state.clone();
             for feed in &mut state.feeds {
                 if desk.clock >= feed.offset {
-                    feed.owes = feed.work;
+                    feed.owes = feed.charged_work(desk.charge);
                 }
             }
-            let mut all = Instants::after_the_clock(&state, work.into(), lead.into());
+            let mut all = Instants::after_the_clock(&state, owes, lead.into());
             return told(all.find(|owed| owed.margin < 0).unwrap());
         }
         // The margin without the new job.
@@ -1480,7 +1523,7 @@ fn each_planted_fault_of_a_reason_is_found() {
 
 /// Notes what came: the lengths of fronts, the counts in them, by how much a
 /// file's length was off, the works taken, and how often a state was overbooked;
-/// and which kinds of reason, by number.
+/// which kinds of reason, by number; and which charges and states under them.
 #[derive(Default)]
 struct Watching {
     lent: RefCell<BTreeSet<usize>>,
@@ -1489,6 +1532,7 @@ struct Watching {
     taken: RefCell<BTreeSet<u64>>,
     overbooked: Cell<u32>,
     reasons: RefCell<BTreeSet<(u32, &'static str)>>,
+    charges: charge::Seen,
 }
 
 impl Watching {
@@ -1582,14 +1626,15 @@ impl Watching {
 }
 
 impl Library for Watching {
-    fn open(&self, list: &[u32], start: u64) -> Answer {
-        Own.open(list, start)
+    fn open(&self, list: &[u32], start: u64, charge: u32) -> Answer {
+        Own.open(list, start, charge)
     }
     fn ask(&self, desk: State, number: u32, work: u32, lead: u32) -> Answer {
         Own.ask(desk, number, work, lead)
     }
     fn ask_mesh(&self, desk: State, head: &[u8], size: u64, number: u32, lead: u32) -> Answer {
         let answer = Own.ask_mesh(desk, head, size, number, lead);
+        self.charges.note(&desk);
         self.lent.borrow_mut().insert(head.len());
         if let Some(b) = head.get(80..84) {
             let triangles = u32::from_le_bytes([b[0], b[1], b[2], b[3]]);
@@ -1601,7 +1646,7 @@ impl Library for Watching {
             0 => {
                 let last = answer.desk.table.count - 1;
                 let owed = answer.desk.table.jobs[last].owed;
-                self.taken.borrow_mut().insert(owed);
+                self.taken.borrow_mut().insert(owed - desk.charge);
             }
             6 if !ahead::never_late(&read(&desk).unwrap()) => {
                 self.overbooked.set(self.overbooked.get() + 1);
@@ -1618,18 +1663,23 @@ impl Library for Watching {
         why
     }
     fn step(&self, desk: State) -> Stepped {
+        self.charges.note(&desk);
         Own.step(desk)
     }
     fn end(&self, desk: State, number: u32) -> Answer {
+        self.charges.note(&desk);
         Own.end(desk, number)
     }
     fn rest(&self, desk: State, position: u32) -> Answer {
+        self.charges.note(&desk);
         Own.rest(desk, position)
     }
     fn list(&self, desk: State, buffer: &mut [u64]) -> Listed {
+        self.charges.note(&desk);
         Own.list(desk, buffer)
     }
     fn label(&self, desk: State, jobs: &[u8], feeds: &[u8]) -> Label {
+        self.charges.note(&desk);
         Own.label(desk, jobs, feeds)
     }
 }
@@ -1640,7 +1690,7 @@ fn a_right_library_passes() {
     let watching = Watching::default();
     let tally = calls::compare(&watching, 7, 0, 30_000).unwrap();
     let refusals = [
-        ("open", vec![0, 2, 3, 8, 9, 10, 12]),
+        ("open", vec![0, 2, 3, 8, 9, 10, 12, 18]),
         ("ask", vec![0, 1, 2, 3, 4, 5, 6, 13]),
         ("mesh", vec![0, 1, 2, 3, 4, 5, 6, 13, 15, 16, 17]),
         ("why", vec![0, 1, 2, 3, 4, 5, 6, 13]),
@@ -1660,4 +1710,5 @@ fn a_right_library_passes() {
     }
     watching.saw_every_kind_of_mesh();
     watching.saw_every_kind_of_reason();
+    watching.charges.saw_every_kind_of_state();
 }
