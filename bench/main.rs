@@ -76,12 +76,14 @@ fn feeds(count: usize) -> Vec<u32> {
     (0..count).flat_map(|i| [periods[i], periods[i] / (2 * count as u32).max(1) + u32::from(count == 16), 0]).collect()
 }
 
-/// A desk with so many feeds and jobs.
-fn with_jobs(feed_count: usize, jobs: u32) -> Desk {
-    let mut desk = Desk::open(&feeds(feed_count), 0).desk;
+/// A desk with so many feeds and jobs, under a charge.
+fn with_jobs(feed_count: usize, jobs: u32, charge: u32) -> Desk {
+    let opened = Desk::open(&feeds(feed_count), 0, charge);
+    assert_eq!(opened.refusal, 0, "{feed_count} feeds, charge {charge}");
+    let mut desk = opened.desk;
     for number in 1..=jobs {
         let answer = desk.ask(number, 20, 6_000 + 200 * number);
-        assert_eq!(answer.refusal, 0, "{feed_count} feeds, job {number}");
+        assert_eq!(answer.refusal, 0, "{feed_count} feeds, job {number}, charge {charge}");
         desk = answer.desk;
     }
     desk
@@ -102,9 +104,10 @@ fn asking(state: &Desk, name: &str, work: u32, lead: u32, refusal: u32) {
     row(name, library, own);
 }
 
-fn calls(feed_count: usize, jobs: u32) {
-    let state = with_jobs(feed_count, jobs);
-    let at = |what: &str| format!("{what}, {jobs} jobs, {feed_count} feeds");
+fn calls(feed_count: usize, jobs: u32, charge: u32) {
+    let state = with_jobs(feed_count, jobs, charge);
+    let under = if charge > 0 { format!(", charge {charge}") } else { String::new() };
+    let at = |what: &str| format!("{what}, {jobs} jobs, {feed_count} feeds{under}");
     asking(&state, &at("ask taken"), 10, 20_000, 0);
     asking(&state, &at("ask refused near"), 3, 2, 6);
     asking(&state, &at("ask refused far"), 30_000, 30_000 - 1, 6);
@@ -133,7 +136,7 @@ fn calls(feed_count: usize, jobs: u32) {
 /// 86,400 ticks with a request every 50, the answers compared; ticks a second of both.
 fn day() {
     let requests = |tick: u64| (tick as u32 / 50 % 60 + 1, 10 + tick as u32 % 30, 300 + tick as u32 % 4_000);
-    let mut one = Desk::open(&feeds(4), 0).desk;
+    let mut one = Desk::open(&feeds(4), 0, 0).desk;
     let mut two = one;
     let began = now();
     let mut named = Vec::new();
@@ -186,8 +189,8 @@ fn runs(program: &str, jobs: u32) {
     for feed in feeds(4).chunks(3) {
         asks += &format!("feed {} {} {}\n", feed[0], feed[1], feed[2]);
     }
-    asks += "go 0\n";
-    let mut desk = Desk::open(&feeds(4), 0).desk;
+    asks += "go 0 0\n";
+    let mut desk = Desk::open(&feeds(4), 0, 0).desk;
     for number in 1..=jobs {
         asks += &format!("ask {number} 900 65536\n");
         desk = desk.ask(number, 900, 65_536).desk;
@@ -226,7 +229,7 @@ fn slowest() {
         let free = 40_320 - 40_320 / period * count;
         for rest in [1, free / 2, free * 7 / 8, free - 64, free - 1, free] {
             let rest = rest.max(1);
-            let mut state = Desk::open(&dense(count, period, rest), 0).desk;
+            let mut state = Desk::open(&dense(count, period, rest), 0, 0).desk;
             for number in 1..=63 {
                 state = state.ask(number, 1, 65_536 - number).desk;
             }
@@ -252,10 +255,11 @@ fn main() {
     println!("| call | library, ns | plain, ns | ratio |\n|---|---|---|---|");
     for feed_count in [0, 4, 16] {
         for jobs in [0, 16, 63] {
-            calls(feed_count, jobs);
+            calls(feed_count, jobs, 0);
         }
     }
-    let full = with_jobs(4, 64);
+    calls(4, 16, 3);
+    let full = with_jobs(4, 64, 0);
     asking(&full, "ask with all places taken, 64 jobs, 4 feeds", 1, 1, 5);
     day();
     let program = std::env::args().nth(1).expect("usage: bench PROGRAM");

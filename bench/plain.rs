@@ -2,7 +2,8 @@
 //! writes them in Rust without proofs. It works on a borrowed state and copies nothing.
 
 use crate::desk::{Desk, Feed, Job};
-use crate::desk::{LAST_INSTANT, LONGEST_LEAD, LONGEST_PERIOD, LONGEST_ROUND, LONGEST_WORK, MOST_FEEDS, MOST_JOBS};
+use crate::desk::{HIGHEST_CHARGE, LAST_INSTANT, LONGEST_LEAD, LONGEST_PERIOD, LONGEST_ROUND, LONGEST_WORK};
+use crate::desk::{MOST_FEEDS, MOST_JOBS};
 
 fn gcd(a: u64, b: u64) -> u64 {
     if b == 0 { a } else { gcd(b, a % b) }
@@ -52,9 +53,9 @@ fn feeds_in_order(desk: &Desk) -> bool {
         Some(round) => round,
         None => return false,
     };
-    let load: u64 = feeds.iter().map(|feed| feed.work * (round / feed.period)).sum();
+    let load: u64 = feeds.iter().map(|feed| (feed.work + desk.charge) * (round / feed.period)).sum();
     let empty = |feed: &Feed| feed.period == 0 && feed.work == 0 && feed.offset == 0 && feed.owes == 0;
-    let piece = |feed: &Feed| feed.owes <= feed.work && (feed.owes == 0 || feed.offset <= desk.clock);
+    let piece = |feed: &Feed| feed.owes <= feed.work + desk.charge && (feed.owes == 0 || feed.offset <= desk.clock);
     load <= round && desk.feeds.feeds[desk.feeds.count..].iter().all(empty) && feeds.iter().all(piece)
 }
 
@@ -65,7 +66,7 @@ fn jobs_in_order(desk: &Desk) -> bool {
     let jobs = jobs_of(desk);
     let within = |job: &Job| {
         job.number != 0
-            && (1..=LONGEST_WORK).contains(&job.owed)
+            && (1..=LONGEST_WORK + desk.charge).contains(&job.owed)
             && job.deadline > desk.clock
             && job.deadline - desk.clock <= LONGEST_LEAD
             && job.deadline <= LAST_INSTANT
@@ -77,7 +78,7 @@ fn jobs_in_order(desk: &Desk) -> bool {
 }
 
 fn in_order(desk: &Desk) -> bool {
-    desk.clock <= LAST_INSTANT && feeds_in_order(desk) && jobs_in_order(desk)
+    desk.clock <= LAST_INSTANT && desk.charge <= HIGHEST_CHARGE && feeds_in_order(desk) && jobs_in_order(desk)
 }
 
 fn owed_by(desk: &Desk, by: u64) -> u64 {
@@ -86,7 +87,7 @@ fn owed_by(desk: &Desk, by: u64) -> u64 {
         .iter()
         .map(|feed| {
             let due = first_due(feed, desk.clock);
-            if by < due { 0 } else { feed.owes + feed.work * ((by - due) / feed.period) }
+            if by < due { 0 } else { feed.owes + (feed.work + desk.charge) * ((by - due) / feed.period) }
         })
         .sum();
     jobs + feeds
@@ -132,7 +133,7 @@ pub fn ask(desk: &mut Desk, number: u32, work: u32, lead: u32) -> u32 {
         return 5;
     }
     let at = desk.table.count;
-    desk.table.jobs[at] = Job { number, owed: work, deadline: desk.clock + lead };
+    desk.table.jobs[at] = Job { number, owed: work + desk.charge, deadline: desk.clock + lead };
     desk.table.count += 1;
     if fits(desk) {
         return 0;
@@ -197,10 +198,10 @@ pub fn tick(desk: &mut Desk) -> (u32, u32, u32) {
         _ => (0, 0, 0),
     };
     desk.clock += 1;
-    let (clock, count) = (desk.clock, desk.feeds.count);
+    let (clock, charge, count) = (desk.clock, desk.charge, desk.feeds.count);
     for feed in &mut desk.feeds.feeds[..count] {
         if clock >= feed.offset && since(feed, clock) == 0 {
-            feed.owes = feed.work;
+            feed.owes = feed.work + charge;
         }
     }
     named
