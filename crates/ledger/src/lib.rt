@@ -1,5 +1,5 @@
-// The state of a box, handed down whole: the clock, the charge, the feeds and the jobs. Whether it is in order, and the one way to make
-// a state from another; in its specs how it is read as a book of the mathematics and written from one.
+// The state of a box, handed down whole: the clock, the charge, the feeds and the jobs. Whether it is in order, and the one
+// way to make a state from another; in its specs how it is read as a book of the mathematics and written from one.
 // It must not know refusals, nor the calls.
 use feeds::Feeds;
 use jobs::Table;
