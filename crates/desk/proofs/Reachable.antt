@@ -159,7 +159,7 @@ held-taking d j h s a =
 
 plans-in : (c : Length) (k : ℕ) (fs : List Feed) → Each FeedIn fs → Each PlanInOrder (edf.plans (bookFeeds c k fs))
 plans-in c k [] h = tt
-plans-in c k (f ∷ fs) h = (record { offset = h .0 .offset; lead = h .0 .period .0; short = omega arith }, plans-in c (suc k) fs (h .1))
+plans-in c k (f ∷ fs) h = (record { offset = h .0 .offset; lead = h .0 .lead .0; short = h .0 .lead .1 }, plans-in c (suc k) fs (h .1))
 
 -- feeds that pass are feeds that an opening accepts
 pub passing-opens : (c : Length) (fs : List Feed) → Passing c fs → Opens (bookFeeds c 1 fs)
@@ -173,7 +173,7 @@ laid-in-order : (fs : List Feed) (c : Length) (clock : Instant) → Passing c fs
     → InOrder (laid fs c clock .ledger)
 laid-in-order fs c clock p z low l =
     let pieces : Each (PieceIn c clock) fs
-    = each-imp (λ f. f .owes .0 ≡ 0) (PieceIn c clock) (λ f e. record { owes = omega (arith, e); early = λ k. e }) fs z in
+    = each-imp (λ f. f .owes .0 ≡ 0) (PieceIn c clock) (λ f e. record { owes = omega (arith, e); early = λ k. e; over = λ k. e }) fs z in
     record {
       clock = l;
       charge = low;

@@ -96,7 +96,7 @@ fn flat_why(why: Because) -> Reason
     }
 }
 
-// Opening with a list of feeds, three numbers a feed, at an instant, under a charge.
+// Opening with a list of feeds, four numbers a feed, at an instant, under a charge.
 #[no_mangle]
 pub extern "C" fn desk_open(list: &[u32], start: u64, charge: u32) -> Answer
     ensures { λ r. ⌜ r ≡ flatAnswer (openedOf (now (list .entry)) start charge) ⌝ }

@@ -13,6 +13,7 @@ use Rattle.edf.specs.Owed.{byThen, dueBy, laterCount, laterBy}
 use Rattle.edf.specs.Step.{turned, turnFeed}
 use Rattle.edf.specs.Order.{PlanInOrder}
 use Rattle.edf.specs.Load.{stretch}
+use Rattle.lists.proofs.Numbers.{div-mono}
 use Rattle.lists.proofs.Tests.{leb-elim, eqb-elim}
 use Rattle.edf.proofs.Releases.{Onward, since-lt, since-suc}
 
@@ -44,12 +45,6 @@ byThen-mono D E d e m n h k l =
 -- owing no more, it owes no more by then
 pub byThen-less : (D d m n : ℕ) → m ≤ n → byThen D d m ≤ byThen D d n
 byThen-less D d m n = byThen-mono D D d d m n (le-refl D) (le-refl d)
-
-pub div-mono : (k m n : ℕ) → m ≤ n → m / k ≤ n / k
-div-mono zero m n h = omega (arith, div-zero m, div-zero n)
-div-mono (suc k) m n h =
-    let i : (m / suc k ≤ n / suc k) ↔ (m / suc k * suc k ≤ n) = le-div-iff-mul-le (omega arith) in
-    i .1 (omega (arith, div-mul-le-self m (suc k)))
 
 -- of the pieces yet to come those are due by D that the count says, no more and no fewer
 pub laterCount-counts : (t D k : ℕ) (p : Plan) → p .offset < p .period → p .lead ≤ p .period

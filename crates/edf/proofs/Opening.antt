@@ -15,7 +15,8 @@ use Rattle.edf.proofs.Loads.{Opens}
 use Rattle.lists.proofs.Lists.{each-imp, each-map, each-of-map, total-le, total-map}
 use Rattle.lists.proofs.Tests.{eqb-elim}
 use Rattle.edf.proofs.Releases.{since-lt, since-early}
-use Rattle.edf.proofs.Demand.{byThen-le, feedOwes, piece-and-later, div-mono}
+use Rattle.lists.proofs.Numbers.{div-mono}
+use Rattle.edf.proofs.Demand.{byThen-le, feedOwes, piece-and-later}
 use Rattle.edf.proofs.Tick.{owedBy-split}
 use Rattle.edf.proofs.Plans.{opened-keeps-plans}
 

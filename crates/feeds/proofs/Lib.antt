@@ -1,5 +1,6 @@
 -- The laws that belong to no one function.
 pub mod Round
+pub mod Stretches
 pub mod Limits
 pub mod Lines
 pub mod Lent

@@ -9,10 +9,10 @@ use Rattle.ticks.specs.declared.Length.{Length}
 use Rattle.ticks.specs.Ticks.{mostRound}
 use Rattle.lists.specs.Lists.{Each, total}
 use Rattle.lists.proofs.Lists.{total-map, each-map, each-of-map}
-use Rattle.plans.specs.Plans.{PlanIn, share}
+use Rattle.plans.specs.Plans.{PlanIn, stretch}
 use Rattle.feeds.specs.declared.Feed.{Feed}
 use Rattle.feeds.specs.Feeds.{FeedIn, plansOf}
-use Rattle.feeds.specs.Round.{IsRound, periods, roundOf, load}
+use Rattle.feeds.specs.Round.{IsRound, periods, roundOf, demand}
 use Rattle.feeds.specs.Lines.{Passing}
 use Rattle.feeds.specs.Pieces.{arrived, rested, served}
 
@@ -31,11 +31,11 @@ module _ (fs gs : List Feed) (same : plansOf fs ≡ plansOf gs) where
   pub same-periods : periods fs ≡ periods gs
   same-periods = periods-of fs ∙ ap (map (λ p. p .period .0)) same ∙ sym (periods-of gs)
 
-  pub same-load : (charge : Length) (R : ℕ) → load charge R fs ≡ load charge R gs
-  same-load charge R =
-      sym (total-map (share charge R) (λ f. f .plan) fs)
-      ∙ ap (total (share charge R)) same
-      ∙ total-map (share charge R) (λ f. f .plan) gs
+  pub same-demand : (charge : Length) (L : ℕ) → demand charge L fs ≡ demand charge L gs
+  same-demand charge L =
+      sym (total-map (stretch charge L) (λ f. f .plan) fs)
+      ∙ ap (total (stretch charge L)) same
+      ∙ total-map (stretch charge L) (λ f. f .plan) gs
 
   pub same-passing : (charge : Length) → Passing charge fs → Passing charge gs
   same-passing charge h =
@@ -45,8 +45,7 @@ module _ (fs gs : List Feed) (same : plansOf fs ≡ plansOf gs) where
         within = same-within (h .within);
         short = subst (λ ps. roundOf ps ≤ mostRound) same-periods (h .short);
         round = subst (λ ps. IsRound (roundOf ps) ps) same-periods (h .round);
-        carried = subst (λ ps. load charge (roundOf ps) gs ≤ roundOf ps) same-periods
-            (subst (λ n. n ≤ roundOf (periods fs)) (same-load charge (roundOf (periods fs))) (h .carried));
+        carried = λ L l. subst (_≤ L) (same-demand charge L) (h .carried L (subst (λ ps. L ≤ roundOf ps) (sym same-periods) l));
       }
 
 -- what comes, is rested or is served changes no plan

@@ -1,6 +1,6 @@
 -- Feeds in their places, and the limits of each.
 use mathlib.Core.Path.{_≡_}
-use mathlib.Core.Bool.{Bool}
+use mathlib.Core.Bool.{Bool, true}
 use mathlib.Core.List.{List, [], _∷_, map}
 use Prim.Native.Nat.{ℕ, _≤_}
 use lib.Dec.{eqb}
@@ -9,7 +9,7 @@ use Rattle.ticks.specs.declared.Length.{Length}
 use Rattle.ticks.specs.Ticks.{ticks}
 use Rattle.plans.specs.declared.Plan.{Plan}
 use Rattle.plans.specs.Plans.{noPlan, planIn, PlanIn, unusedPlan}
-use Rattle.lists.specs.Lists.{allOf, filled}
+use Rattle.lists.specs.Lists.{every, allOf, filled}
 use Rattle.feeds.specs.declared.Feed.{Feed}
 use Rattle.feeds.specs.declared.Feeds.{Feeds}
 
@@ -19,7 +19,7 @@ mostFeeds = 16
 
 -- as many numbers as a feed takes in a lent list
 abbrev pub numbersAFeed : ℕ
-numbersAFeed = 3
+numbersAFeed = 4
 
 -- a feed of this plan whose current piece owes so much
 abbrev pub feedOf : Plan → ℕ → Feed
@@ -56,6 +56,11 @@ plansOf fs = map (λ f. f .plan) fs
 -- these feeds at the front, the other places all zero
 abbrev pub feedsOf : List Feed → Feeds
 feedsOf fs = record { count = length fs; feeds = filled mostFeeds noFeed fs }
+
+-- as many feeds as there are places at most, each within its limits
+pub record Bearable (s : Feeds) : Type 0 where
+  pub few : s .count ≤ mostFeeds
+  pub within : every feedIn (inUse s) ≡ true
 
 -- feeds at the front of their places, the other places all zero
 pub record Tidy (s : Feeds) : Type 0 where

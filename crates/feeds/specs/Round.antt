@@ -1,12 +1,12 @@
--- The round: the least number of ticks that every period goes into, and what the feeds want in it.
-use mathlib.Core.Bool.{Bool, cond}
+-- The round: the least number of ticks that every period goes into, and what the feeds want in stretches up to it.
+use mathlib.Core.Bool.{Bool, true, cond, _&&_}
 use mathlib.Core.List.{List, map}
 use Prim.Native.Nat.{ℕ, zero, suc, _%_, _≤_, _∣_}
-use lib.Dec.{eqb}
+use lib.Dec.{leb, eqb}
 use Rattle.ticks.specs.declared.Length.{Length}
 use Rattle.ticks.specs.Ticks.{mostRound}
 use Rattle.lists.specs.Lists.{every, Each, total}
-use Rattle.plans.specs.Plans.{share}
+use Rattle.plans.specs.Plans.{stretch}
 use Rattle.feeds.specs.declared.Feed.{Feed}
 
 -- every period goes into R, and R goes into every number that all of them go into
@@ -31,6 +31,11 @@ firstFrom p (suc k) n = let later = firstFrom p k (suc n) in cond (p n) n later
 unfoldable pub roundOf : List ℕ → ℕ
 roundOf ps = firstFrom (λ n. every (goesInto n) ps) mostRound 1
 
--- what the feeds want in a round of R ticks, with the charge of each piece
-abbrev pub load : Length → ℕ → List Feed → ℕ
-load charge R fs = total (λ f. share charge R (f .plan)) fs
+-- what the pieces that come and are due within L ticks want, each with its charge, of feeds released together
+abbrev pub demand : Length → ℕ → List Feed → ℕ
+demand charge L fs = total (λ f. stretch charge L (f .plan)) fs
+
+-- in no stretch up to R ticks is more wanted than it has
+unfoldable pub carries : Length → ℕ → List Feed → Bool
+carries charge zero fs = true
+carries charge (suc L) fs = let shorter = carries charge L fs in leb (demand charge (suc L) fs) (suc L) && shorter

@@ -15,12 +15,13 @@ ghost use Prim.Native.Nat.{_+_, _*_, _-_, _≤_, _<_, _^_};
 ghost use lib.ListN.{length, drop, getD, set};
 ghost use Rattle.ticks.specs.Ticks.{mostRound, mostCharge, ticks};
 ghost use Rattle.lists.specs.Lists.{every, Each};
+ghost use Rattle.plans.specs.Plans.{toTheNext};
 ghost use Rattle.answers.specs.declared.Verdict.the-variants.{Yes};
 ghost use Rattle.answers.specs.Answers.{firstOf};
-ghost use Rattle.feeds.specs.Feeds.{mostFeeds, numbersAFeed, noFeed, feedIn, FeedIn, unusedFeed, inUse, feedsOf, owing, Tidy};
-ghost use Rattle.feeds.specs.Round.{roundOf, periods, load};
+ghost use Rattle.feeds.specs.Feeds.{mostFeeds, numbersAFeed, noFeed, feedIn, FeedIn, unusedFeed, inUse, feedsOf, owing, Tidy, Bearable};
+ghost use Rattle.feeds.specs.Round.{roundOf, periods, demand, carries};
 ghost use Rattle.feeds.specs.Lines.{shapeLines, feedLines, feedsPass, feedsIn, feedAt};
-ghost use Rattle.feeds.specs.Pieces.{pieceIn, arrived, served, rested, owesAt};
+ghost use Rattle.feeds.specs.Pieces.{pieceIn, owesThen, arrived, served, rested, owesAt};
 
 // A printer's feed: its plan, and what the piece that came last still wants.
 #[repr(C)]
@@ -39,8 +40,8 @@ pub struct Feeds {
 impl Feed {
     // As many feeds as there are places.
     pub const MOST: usize = 16;
-    // As many numbers as a feed takes in a lent list: period, work and offset.
-    pub const NUMBERS: usize = 3;
+    // As many numbers as a feed takes in a lent list: period, work, offset and deadline length.
+    pub const NUMBERS: usize = 4;
     // A place that no feed has.
     pub const NONE: Feed = Feed {
         plan: Plan::NONE,
@@ -74,34 +75,48 @@ impl Feed {
         self.owes.is_none()
     }
 
-    // What a state in order says of the current piece: it owes at most its charged work, and nothing while the clock is below
-    // the offset.
+    // What a state in order says of the current piece: it owes at most its charged work, nothing while the clock is below the
+    // offset, and nothing from its deadline on.
     fn piece_in(self, charge: Length, clock: Instant) -> bool
-        requires { ⌜ FeedIn self × (charge .0 ≤ mostCharge) ⌝ }
+        requires { ⌜ FeedIn self × (charge .0 ≤ mostCharge) × (clock .0 < 2 ^ 63) ⌝ }
         ensures { λ r. ⌜ r ≡ pieceIn charge clock self ⌝ }
     {
         if self.owes.is_longer(self.plan.charged(charge)) {
             return false;
         }
+        if self.owes.is_none() {
+            return true;
+        }
         let first = Instant::FIRST.plus(self.plan.offset);
         if first.is_after(clock) {
-            return self.owes.is_none();
+            return false;
         }
-        true
+        self.plan.lead.is_longer(self.plan.since(clock))
     }
 
-    // The feed at this instant: where a piece comes then, it is ready, whole, and owes the charge too.
+    // What the current piece owes at this instant: one that comes then its charged work, one whose deadline has come nothing.
+    fn owes_then(self, charge: Length, at: Instant) -> Length
+        requires { ⌜ FeedIn self × (charge .0 ≤ mostCharge) × (at .0 < 2 ^ 63) ⌝ }
+        ensures { λ r. ⌜ r ≡ owesThen charge at self ⌝ }
+    {
+        let since = self.plan.since(at);
+        if since.is_none() {
+            return self.plan.charged(charge);
+        }
+        if self.plan.lead.is_longer(since) {
+            return self.owes;
+        }
+        Length::NONE
+    }
+
     fn arrived(self, charge: Length, at: Instant) -> Feed
         requires { ⌜ FeedIn self × (charge .0 ≤ mostCharge) × (at .0 < 2 ^ 63) ⌝ }
         ensures { λ r. ⌜ r ≡ arrived charge at self ⌝ }
     {
-        if self.plan.since(at).is_none() {
-            let owes = self.plan.charged(charge);
-            let mut feed = self;
-            feed.owes = owes;
-            return feed;
-        }
-        self
+        let owes = self.owes_then(charge, at);
+        let mut feed = self;
+        feed.owes = owes;
+        feed
     }
 }
 
@@ -160,18 +175,63 @@ impl Feeds {
         Length(round)
     }
 
-    // What the feeds want in a round, with the charge of each piece.
-    pub fn load(self, charge: Length, round: Length) -> Length
-        requires { ⌜ (self .count ≤ mostFeeds) × (every feedIn (inUse self) ≡ true) × (charge .0 ≤ mostCharge) × (round .0 ≤ mostRound) ⌝ }
-        ensures { λ r. ⌜ r ≡ ticks (load charge (round .0) (inUse self)) ⌝ }
+    // What the pieces that come and are due within so many ticks want, each with its charge, of feeds released together.
+    fn demand(self, charge: Length, stretch: Length) -> Length
+        requires { ⌜ Bearable self × (charge .0 ≤ mostCharge) × (stretch .0 ≤ mostRound) ⌝ }
+        ensures { λ r. ⌜ r ≡ ticks (demand charge (stretch .0) (inUse self)) ⌝ }
     {
         let count = self.count;
         let mut sum = 0;
         for i in 0..count {
             let feed = self.feeds[i];
-            sum += feed.plan.share(charge, round);
+            sum += feed.plan.stretch(charge, stretch);
         }
         Length(sum)
+    }
+
+    // Whether every piece is due when the next one comes.
+    fn all_to_the_next(self) -> bool
+        requires { ⌜ self .count ≤ mostFeeds ⌝ }
+        ensures { λ r. ⌜ r ≡ every (λ f. toTheNext (f .plan)) (inUse self) ⌝ }
+    {
+        let count = self.count;
+        for i in 0..count {
+            let feed = self.feeds[i];
+            if !feed.plan.to_the_next() {
+                return false;
+            }
+        }
+        true
+    }
+
+    // The walk: down from the round. Where what a stretch wants is no longer than it, so it is for every stretch from that
+    // length on, as no more is wanted in a shorter one; so the walk goes on below that.
+    fn bears_each(self, charge: Length, round: Length) -> bool
+        requires { ⌜ Bearable self × (charge .0 ≤ mostCharge) × (round .0 ≤ mostRound) ⌝ }
+        ensures { λ r. ⌜ r ≡ carries charge (round .0) (inUse self) ⌝ }
+    {
+        let mut end = round.and(Length(1));
+        while end.is_longer(Length(1)) {
+            let stretch = end.one_less();
+            let want = self.demand(charge, stretch);
+            if want.is_longer(stretch) {
+                return false;
+            }
+            end = want;
+        }
+        true
+    }
+
+    // Line 10: whether in no stretch up to the round more is wanted than it has. Where every piece is due when the next one
+    // comes, what the round itself wants decides.
+    fn bears(self, charge: Length, round: Length) -> bool
+        requires { ⌜ Bearable self × (charge .0 ≤ mostCharge) × (round .0 ≤ mostRound) × (round ≡ ticks (roundOf (periods (inUse self)))) ⌝ }
+        ensures { λ r. ⌜ r ≡ carries charge (round .0) (inUse self) ⌝ }
+    {
+        if self.all_to_the_next() {
+            return !self.demand(charge, round).is_longer(round);
+        }
+        self.bears_each(charge, round)
     }
 
     // Lines 2, 9 and 10.
@@ -186,7 +246,7 @@ impl Feeds {
         if !round.suits_round() {
             return Verdict::No(Refusal::RoundTooLong);
         }
-        if self.load(charge, round).is_longer(round) {
+        if !self.bears(charge, round) {
             return Verdict::No(Refusal::TooMuchLoad);
         }
         Verdict::Yes
@@ -194,7 +254,7 @@ impl Feeds {
 
     // What a state in order says of the current pieces.
     fn pieces_in(self, charge: Length, clock: Instant) -> bool
-        requires { ⌜ (self .count ≤ mostFeeds) × (every feedIn (inUse self) ≡ true) × (charge .0 ≤ mostCharge) ⌝ }
+        requires { ⌜ Bearable self × (charge .0 ≤ mostCharge) × (clock .0 < 2 ^ 63) ⌝ }
         ensures { λ r. ⌜ r ≡ every (pieceIn charge clock) (inUse self) ⌝ }
     {
         let count = self.count;
@@ -209,7 +269,7 @@ impl Feeds {
     // Whether any feeds that are handed in are in order at this instant, under this charge: they would pass the opening, the
     // current pieces are in order, and the unused places are all zero.
     pub fn in_order(self, charge: Length, clock: Instant) -> bool
-        requires { ⌜ charge .0 ≤ mostCharge ⌝ }
+        requires { ⌜ (charge .0 ≤ mostCharge) × (clock .0 < 2 ^ 63) ⌝ }
         ensures { λ r. ⌜ r ≡ feedsPass charge clock self ⌝ }
     {
         if Feed::MOST < self.count {
@@ -224,7 +284,7 @@ impl Feeds {
         self.pieces_in(charge, clock)
     }
 
-    // The pieces that come at this instant are ready.
+    // The pieces that come at this instant are ready, and those whose deadline has come give way.
     pub fn arrive(self, charge: Length, at: Instant) -> Feeds
         requires { ⌜ Tidy self × Each FeedIn (inUse self) × (charge .0 ≤ mostCharge) × (at .0 < 2 ^ 63) ⌝ }
         ensures { λ r. ⌜ r ≡ feedsOf (map (arrived charge at) (inUse self)) ⌝ }
@@ -287,17 +347,19 @@ impl Feeds {
 
 // The feed at a place of the lent list.
 fn feed_at(list: &[u32], at: usize) -> Feed
-    requires { ⌜ numbersAFeed * at + 2 < length (now list) ⌝ }
+    requires { ⌜ numbersAFeed * at + 3 < length (now list) ⌝ }
     ensures { λ r. ⌜ r ≡ feedAt (now (list .entry)) at ⌝ }
 {
     let from = Feed::NUMBERS * at;
     let period = Length::of(list[from]);
     let work = Length::of(list[from + 1]);
     let offset = Length::of(list[from + 2]);
+    let lead = Length::of(list[from + 3]);
     let plan = Plan {
         period,
         work,
         offset,
+        lead,
     };
     Feed {
         plan,

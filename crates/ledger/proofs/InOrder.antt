@@ -2,7 +2,8 @@
 use mathlib.Core.Path.{_≡_, refl, sym, ap, subst, _∙_}
 use mathlib.Core.Bool.{true}
 use mathlib.Core.List.{List, [], _∷_, map}
-use Prim.Native.Nat.{ℕ, suc, _+_, _≤_, _<_, _∣_}
+use Prim.Native.Nat.{ℕ, suc, _+_, _-_, _*_, _/_, _≤_, _<_, _∣_}
+use native.Mathlib.Nat.{le-refl}
 use native.Mathlib.Omega.{arith}
 use lib.Dec.{eqb}
 use lib.ListN.{length, length-map}
@@ -13,10 +14,12 @@ use Rattle.lists.proofs.Tests.{eq-elim, all-of, all-of-made}
 use Rattle.ticks.specs.declared.Instant.{Instant}
 use Rattle.ticks.specs.declared.Length.{Length}
 use Rattle.ticks.specs.Ticks.{instant, ticks}
-use Rattle.plans.specs.Plans.{share}
+use Rattle.plans.specs.declared.Plan.{Plan}
+use Rattle.plans.specs.Plans as plans
+use Rattle.plans.specs.Plans.{PlanIn}
 use Rattle.feeds.specs.declared.Feed.{Feed}
 use Rattle.feeds.specs.Feeds.{FeedIn, inUse, plansOf, feedsOf, owing}
-use Rattle.feeds.specs.Round.{periods, roundOf, load}
+use Rattle.feeds.specs.Round.{periods, roundOf, demand}
 use Rattle.feeds.specs.Lines.{Passing, FeedsIn}
 use Rattle.feeds.specs.Pieces.{PieceIn}
 use Rattle.feeds.proofs.Passing.{feeds-pass, feeds-tidy, feeds-pass-made, in-use-of, tidy-of, feeds-pass-of}
@@ -27,14 +30,14 @@ use Rattle.jobs.proofs.Limits.{table-in, table-in-made}
 use Rattle.jobs.proofs.Places as jobs
 use Rattle.edf.specs.Book as edf
 use Rattle.edf.specs.Order.{FeedInOrder, JobInOrder, InOrder as BookInOrder}
-use Rattle.edf.specs.Load.{Light}
-use Rattle.edf.proofs.Loads.{aRound, Round}
-use Rattle.edf.proofs.Releases.{since-lt}
-use Rattle.edf.proofs.Rounds.{round-is-light}
+use Rattle.edf.specs.Load.{stretch, Light}
+use Rattle.edf.proofs.Loads.{Round}
+use Rattle.edf.proofs.Rounds.{round-carried, short-stretches-are-light}
 use Rattle.ledger.specs.declared.Ledger.{Ledger}
 use Rattle.ledger.specs.State.{inOrder, Sized, InOrder}
 use Rattle.ledger.specs.Books.{bookPlan, bookFeed, bookFeeds, bookJob, bookAt, bookOf, jobOf, owingAs, rewritten, JobHeld, SameFeeds, Held}
 use Rattle.ledger.proofs.Books.{owing-as-plans, length-owing-as, read-owing-as}
+use Rattle.ledger.proofs.Pieces.{since-read}
 
 -- THE TEST OF A STATE, AS FACTS
 pub in-order : (l : Ledger) → Sized l → inOrder l ≡ true → InOrder l
@@ -66,10 +69,10 @@ in-order-made l h =
 feed-in-order : (c : Length) (clock : Instant) (k : ℕ) (f : Feed) → FeedIn f → PieceIn c clock f → FeedInOrder (clock .0) (bookFeed c k f)
 feed-in-order c clock k f h p =
     record {
-      plan = record { offset = h .offset; lead = h .period .0; short = omega arith };
+      plan = record { offset = h .offset; lead = h .lead .0; short = h .lead .1 };
       owes = p .owes;
       early = p .early;
-      over = λ l. absurd (omega (arith, since-lt (bookPlan c (f .plan)) (clock .0) (h .offset)));
+      over = λ l. p .over (subst (f .plan .lead .0 ≤_) (sym (since-read c (f .plan) (clock .0))) l);
     }
 
 feeds-in-order : (c : Length) (clock : Instant) (k : ℕ) (fs : List Feed) → Each FeedIn fs → Each (PieceIn c clock) fs
@@ -96,26 +99,43 @@ common-of : (c : Length) (R k : ℕ) (fs : List Feed) → Each (λ p. p ∣ R) (
 common-of c R k [] h = tt
 common-of c R k (f ∷ fs) h = (h .0, common-of c R (suc k) fs (h .1))
 
-load-of : (c : Length) (R k : ℕ) (fs : List Feed) → total (aRound R) (edf.plans (bookFeeds c k fs)) ≡ load c R fs
-load-of c R k [] = refl
-load-of c R k (f ∷ fs) = ap (share c R (f .plan) +_) (load-of c R (suc k) fs)
+-- what a stretch wants, here and in the mathematics
+stretch-of : (c : Length) (L : ℕ) (p : Plan) → PlanIn p → stretch L (bookPlan c p) ≡ plans.stretch c L p
+stretch-of c L p h =
+    let n : L + p .period .0 - p .lead .0 ≡ L + (p .period .0 - p .lead .0) = omega (arith, h .lead .1) in
+    ap (λ m. plans.charged c p * (m / p .period .0)) n
 
-leads-of : (c : Length) (k : ℕ) (fs : List Feed) → Each (λ p. p .lead ≡ p .period) (edf.plans (bookFeeds c k fs))
-leads-of c k [] = tt
-leads-of c k (f ∷ fs) = (refl, leads-of c (suc k) fs)
+pub demand-of : (c : Length) (L k : ℕ) (fs : List Feed) → Each FeedIn fs → total (stretch L) (edf.plans (bookFeeds c k fs)) ≡ demand c L fs
+demand-of c L k [] h = refl
+demand-of c L k (f ∷ fs) h = λ i. stretch-of c L (f .plan) (h .0) i + demand-of c L (suc k) fs (h .1) i
+
+leads-of : (c : Length) (k : ℕ) (fs : List Feed) → Each FeedIn fs → Each (λ p. (1 ≤ p .period) × (p .lead ≤ p .period)) (edf.plans (bookFeeds c k fs))
+leads-of c k [] h = tt
+leads-of c k (f ∷ fs) h = ((h .0 .period .0, h .0 .lead .1), leads-of c (suc k) fs (h .1))
 
 -- FEEDS THAT PASS ARE LIGHT, and their round is a round of the mathematics
-pub book-round : (c : Length) (k : ℕ) (fs : List Feed) → Passing c fs → Round (roundOf (periods fs)) (edf.plans (bookFeeds c k fs))
-book-round c k fs h =
-    let R = roundOf (periods fs) in
-    record {
-      positive = h .round .some;
-      common = common-of c R k fs (h .round .common);
-      carried = subst (_≤ R) (sym (load-of c R k fs)) (h .carried);
-    }
+module _ (c : Length) (k : ℕ) (fs : List Feed) (h : Passing c fs) where
+  R : ℕ
+  R = roundOf (periods fs)
 
-pub book-light : (c : Length) (k : ℕ) (fs : List Feed) → Passing c fs → Light (edf.plans (bookFeeds c k fs))
-book-light c k fs h = round-is-light (roundOf (periods fs)) (edf.plans (bookFeeds c k fs)) (book-round c k fs h) (leads-of c k fs)
+  short : (L : ℕ) → L ≤ R → total (stretch L) (edf.plans (bookFeeds c k fs)) ≤ L
+  unfolding R
+  short L l = subst (_≤ L) (sym (demand-of c L k fs (h .within))) (h .carried L l)
+
+  pub book-round : Round (roundOf (periods fs)) (edf.plans (bookFeeds c k fs))
+  unfolding R
+  book-round =
+      record {
+        positive = h .round .some;
+        common = common-of c (roundOf (periods fs)) k fs (h .round .common);
+        carried = round-carried (roundOf (periods fs)) (edf.plans (bookFeeds c k fs))
+            (each-imp (λ p. (1 ≤ p .period) × (p .lead ≤ p .period)) (λ p. p .lead ≤ p .period) (λ p l. l .1) (edf.plans (bookFeeds c k fs)) (leads-of c k fs (h .within)))
+            (short (roundOf (periods fs)) (le-refl _));
+      }
+
+  pub book-light : Light (edf.plans (bookFeeds c k fs))
+  unfolding R
+  book-light = short-stretches-are-light (roundOf (periods fs)) (edf.plans (bookFeeds c k fs)) book-round (leads-of c k fs (h .within)) (λ L l. short L (omega arith))
 
 -- IN ORDER, READ AS A BOOK
 pub book-in-order : (c : Length) (clock : Instant) (fs : List Feed) (js : List Job) → FeedsIn c clock fs → JobsIn c clock js
@@ -155,7 +175,10 @@ state-held l h =
 -- the current pieces of feeds in the book
 pieces-written : (c : Length) (t k : ℕ) (fs : List Feed) → Each (FeedInOrder t) (bookFeeds c k fs) → Each (PieceIn c (instant t)) fs
 pieces-written c t k [] h = tt
-pieces-written c t k (f ∷ fs) h = (record { owes = h .0 .owes; early = h .0 .early }, pieces-written c t (suc k) fs (h .1))
+pieces-written c t k (f ∷ fs) h = (
+  record { owes = h .0 .owes; early = h .0 .early; over = λ l. h .0 .over (subst (f .plan .lead .0 ≤_) (since-read c (f .plan) t) l) },
+  pieces-written c t (suc k) fs (h .1),
+)
 
 -- the jobs of a book that a table can hold
 jobs-written : (c : Length) (b : edf.Book) → BookInOrder b → length (b .jobs) ≤ Rattle.jobs.specs.Jobs.mostJobs

@@ -1,26 +1,25 @@
 -- What an instant brings, what is served and what is rested, as the mathematics has them.
 use mathlib.Core.Path.{_≡_, refl, sym, ap, _∙_}
-use mathlib.Core.Bool.{Bool, true, false, cond}
+use mathlib.Core.Bool.{Bool, true, false, not, cond}
 use mathlib.Core.List.{List, [], _∷_, map}
-use Prim.Native.Nat.{ℕ, suc, _+_, _-_, _<_}
-use native.Mathlib.Omega.{arith}
-use lib.Dec.{eqb}
+use Prim.Native.Nat.{ℕ, suc, _+_, _-_}
+use lib.Dec.{leb, ltb, eqb}
+use borrow.Author.Tests.{le-leb, lt-leb}
 use Rattle.lists.specs.Lists.{eq, Each}
-use Rattle.lists.proofs.Tests.{leb-elim}
+use Rattle.lists.proofs.Tests.{ltb-elim}
 use Rattle.ticks.specs.declared.Instant.{Instant}
 use Rattle.ticks.specs.declared.Length.{Length}
 use Rattle.ticks.specs.Ticks.{ticks}
 use Rattle.plans.specs.declared.Plan.{Plan}
 use Rattle.plans.specs.Plans as plans
 use Rattle.feeds.specs.declared.Feed.{Feed}
-use Rattle.feeds.specs.Feeds.{owing, FeedIn}
-use Rattle.feeds.specs.Pieces.{arrived, rested, served}
+use Rattle.feeds.specs.Feeds.{owing}
+use Rattle.feeds.specs.Pieces.{owesThen, arrived, rested, served}
 use Rattle.edf.specs.Book as edf
 use Rattle.edf.specs.Releases as releases
 use Rattle.edf.specs.Step.{serveFeed, turned, turnFeed}
 use Rattle.edf.specs.Calls.{restFeed}
 use Rattle.edf.specs.Load.{openedFeed}
-use Rattle.edf.proofs.Releases.{since-lt}
 use Rattle.ledger.specs.Books.{bookPlan, bookFeed, bookFeeds, owingAs}
 
 -- the time since a release, the next release and the deadline are the mathematics' own
@@ -34,45 +33,53 @@ next-read c p t = ap (λ s. t + (p .period .0 - s)) (since-read c p t)
 
 pub due-read : (c : Length) (p : Plan) (t : ℕ) → plans.due p t ≡ releases.due (bookPlan c p) t
 unfolding plans.due
-due-read c p t = ap (λ s. t + plans.leadOf p .0 - s) (since-read c p t)
+due-read c p t = ap (λ s. t + p .lead .0 - s) (since-read c p t)
 
--- with deadlines at the next release a piece gives way to the next one only
-turned-is : (c : Length) (x k : ℕ) (f : Feed) → FeedIn f
-    → turned x (bookFeed c k f) ≡ cond (eqb (releases.since (bookPlan c (f .plan)) x) 0) (plans.charged c (f .plan)) (f .owes .0)
-unfolding turned
-turned-is c x k f h =
-    leb-elim (λ b. cond (eqb g 0) (plans.charged c (f .plan)) (cond b 0 (f .owes .0)) ≡ cond (eqb g 0) (plans.charged c (f .plan)) (f .owes .0)) (f .plan .period .0) g
-    (λ l. absurd (omega (arith, since-lt (bookPlan c (f .plan)) x (h .offset))))
-    (λ l. refl)
+cond-ticks : (a b : Bool) (n : ℕ) (l : Length) → cond a (ticks n) (cond b l (ticks 0)) ≡ ticks (cond a n (cond (not b) 0 (l .0)))
+cond-ticks true b n l = refl
+cond-ticks false true n l = refl
+cond-ticks false false n l = refl
+
+not-ltb : (m n : ℕ) → not (ltb m n) ≡ leb n m
+not-ltb m n = ltb-elim (λ b. not b ≡ leb n m) m n (λ h. sym (lt-leb n m h)) (λ h. sym (le-leb n m h))
+
+-- what the current piece owes at an instant: a piece comes exactly at a release, and gives way at its deadline
+then-is : (c : Length) (x : Instant) (k : ℕ) (f : Feed) → owesThen c x f ≡ ticks (turned (x .0) (bookFeed c k f))
+unfolding owesThen turned
+then-is c x k f =
+    let n = plans.charged c (f .plan) in
+    let l = f .plan .lead .0 in
+    ap (λ s. cond (eqb s 0) (ticks n) (cond (ltb s l) (f .owes) (ticks 0))) (since-read c (f .plan) (x .0))
+    ∙ cond-ticks (eqb s 0) (ltb s l) n (f .owes)
+    ∙ ap (λ b. ticks (cond (eqb s 0) n (cond b 0 (f .owes .0)))) (not-ltb s l)
   where
-    g : ℕ
-    g = releases.since (bookPlan c (f .plan)) x
-
-cond-ticks : (b : Bool) (n : ℕ) (l : Length) → cond b (ticks n) l ≡ ticks (cond b n (l .0))
-cond-ticks true n l = refl
-cond-ticks false n l = refl
-
--- a piece comes exactly at a release
-arrived-is : (c : Length) (x : Instant) (f : Feed) → arrived c x f ≡ owing (ticks (cond (eqb (releases.since (bookPlan c (f .plan)) (x .0)) 0) (plans.charged c (f .plan)) (f .owes .0))) f
-unfolding arrived
-arrived-is c x f =
-    ap (λ s. owing (cond (eqb s 0) (ticks (plans.charged c (f .plan))) (f .owes)) f) (since-read c (f .plan) (x .0))
-    ∙ ap (λ n. owing n f) (cond-ticks (eqb (releases.since (bookPlan c (f .plan)) (x .0)) 0) (plans.charged c (f .plan)) (f .owes))
+    s : ℕ
+    s = releases.since (bookPlan c (f .plan)) (x .0)
 
 -- what comes at an instant
-pub arrived-turned : (c : Length) (x : Instant) (k : ℕ) (fs : List Feed) → Each FeedIn fs
-    → map (arrived c x) fs ≡ owingAs (map (turnFeed (x .0)) (bookFeeds c k fs)) fs
-arrived-turned c x k [] h = refl
-arrived-turned c x k (f ∷ fs) h =
-    λ i. (arrived-is c x f ∙ ap (λ n. owing (ticks n) f) (sym (turned-is c (x .0) k f (h .0)))) i ∷ arrived-turned c x (suc k) fs (h .1) i
+pub arrived-turned : (c : Length) (x : Instant) (k : ℕ) (fs : List Feed) → map (arrived c x) fs ≡ owingAs (map (turnFeed (x .0)) (bookFeeds c k fs)) fs
+unfolding arrived
+arrived-turned c x k [] = refl
+arrived-turned c x k (f ∷ fs) = λ i. owing (then-is c x k f i) f ∷ arrived-turned c x (suc k) fs i
+
+cond-same : (b : Bool) (n : ℕ) → cond b n n ≡ n
+cond-same true n = refl
+cond-same false n = refl
 
 -- the same at an opening, where no piece is there yet
 pub arrived-opened : (c : Length) (x : Instant) (k : ℕ) (fs : List Feed) → Each (λ f. f .owes .0 ≡ 0) fs
     → map (arrived c x) fs ≡ owingAs (map (openedFeed (x .0)) (bookFeeds c k fs)) fs
+unfolding arrived turned
 arrived-opened c x k [] z = refl
 arrived-opened c x k (f ∷ fs) z =
-    λ i. (arrived-is c x f ∙ ap (λ n. owing (ticks (cond (eqb (releases.since (bookPlan c (f .plan)) (x .0)) 0) (plans.charged c (f .plan)) n)) f) (z .0)) i
+    λ i. (ap (λ n. owing n f) (then-is c x k f) ∙ ap (λ n. owing (ticks (cond (eqb s 0) (plans.charged c (f .plan)) n)) f) none) i
     ∷ arrived-opened c x (suc k) fs (z .1) i
+  where
+    s : ℕ
+    s = releases.since (bookPlan c (f .plan)) (x .0)
+
+    none : cond (leb (f .plan .lead .0) s) 0 (f .owes .0) ≡ 0
+    none = ap (cond (leb (f .plan .lead .0) s) 0) (z .0) ∙ cond-same (leb (f .plan .lead .0) s) 0
 
 -- the current piece of a feed rests
 pub rested-read : (c : Length) (p k : ℕ) (fs : List Feed) → rested p k fs ≡ owingAs (map (restFeed p) (bookFeeds c k fs)) fs

@@ -8,7 +8,7 @@ use Rattle.ticks.specs.declared.Instant.{Instant}
 use Rattle.ticks.specs.declared.Length.{Length}
 use Rattle.ticks.specs.Ticks.{lastInstant, mostJob, instant, ticks}
 use Rattle.plans.specs.declared.Plan.{Plan}
-use Rattle.plans.specs.Plans.{leadOf, charged}
+use Rattle.plans.specs.Plans.{charged}
 use Rattle.feeds.specs.declared.Feed.{Feed}
 use Rattle.feeds.specs.Feeds.{owing, inUse, feedsOf}
 use Rattle.jobs.specs.declared.Job.{Job}
@@ -23,7 +23,7 @@ use Rattle.ledger.specs.State.{moved}
 -- a plan under a charge: each piece wants its charged work
 abbrev pub bookPlan : Length → Plan → edf.Plan
 bookPlan charge p =
-    record { period = p .period .0; work = charged charge p; offset = p .offset .0; lead = leadOf p .0 }
+    record { period = p .period .0; work = charged charge p; offset = p .offset .0; lead = p .lead .0 }
 
 -- a feed at its position
 abbrev pub bookFeed : Length → ℕ → Feed → edf.Feed

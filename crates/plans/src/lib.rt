@@ -1,5 +1,5 @@
 // A printer's plan: how its layers come and when each is due. Its limits, the time since a release, the next release and
-// the deadline, what it wants in a round; and Euclid's rule, under the round's common multiple.
+// the deadline, what it wants in a stretch of ticks; and Euclid's rule, under the round's common multiple.
 // It must not know what a piece still owes, nor how the clock moves.
 use ticks::Instant;
 use ticks::Length;
@@ -8,15 +8,17 @@ pub mod euclid;
 
 ghost use mathlib.Core.Path.{_≡_};
 ghost use Prim.Native.Nat.{_+_, _*_, _≤_, _<_, _^_};
-ghost use Rattle.ticks.specs.Ticks.{mostFeed, mostCharge, instant, ticks};
-ghost use Rattle.plans.specs.Plans.{mostPiece, noPlan, planIn, unusedPlan, PlanIn, Shareable, leadOf, since, next, due, charged, share};
+ghost use Rattle.ticks.specs.Ticks.{mostFeed, mostRound, mostCharge, instant, ticks};
+ghost use Rattle.plans.specs.Plans.{mostPiece, noPlan, planIn, unusedPlan, PlanIn, toTheNext, since, next, due, charged, stretch};
 
-// A piece of `work` ticks comes every `period` ticks, at the instants that leave the remainder `offset`.
+// A piece of `work` ticks comes every `period` ticks, at the instants that leave the remainder `offset`, and is due `lead` ticks
+// after it came.
 #[repr(C)]
 pub struct Plan {
     pub period: Length,
     pub work: Length,
     pub offset: Length,
+    pub lead: Length,
 }
 
 impl Plan {
@@ -25,6 +27,7 @@ impl Plan {
         period: Length::NONE,
         work: Length::NONE,
         offset: Length::NONE,
+        lead: Length::NONE,
     };
 
     pub fn none() -> Plan
@@ -43,7 +46,10 @@ impl Plan {
         if !self.work.suits_feed() {
             return false;
         }
-        self.period.is_longer(self.offset)
+        if !self.period.is_longer(self.offset) {
+            return false;
+        }
+        self.lead.from_one(self.period)
     }
 
     pub fn is_none(self) -> bool
@@ -55,14 +61,10 @@ impl Plan {
         if !self.work.is_none() {
             return false;
         }
-        self.offset.is_none()
-    }
-
-    // How long after its release a piece is due.
-    pub fn lead(self) -> Length
-        ensures { λ r. ⌜ r ≡ leadOf self ⌝ }
-    {
-        self.period
+        if !self.offset.is_none() {
+            return false;
+        }
+        self.lead.is_none()
     }
 
     // How long ago the current piece came: no ticks at a release.
@@ -82,12 +84,12 @@ impl Plan {
         clock.plus(self.period.less(self.since(clock)))
     }
 
-    // When the current piece is due.
+    // When the current piece is due, or was.
     pub fn due(self, clock: Instant) -> Instant
         requires { ⌜ PlanIn self × (clock .0 < 2 ^ 63) ⌝ }
         ensures { λ r. ⌜ r ≡ instant (due self (clock .0)) ⌝ }
     {
-        clock.plus(self.lead().less(self.since(clock)))
+        clock.plus(self.lead).back(self.since(clock))
     }
 
     // What a piece owes when it comes: its work and the charge.
@@ -98,11 +100,19 @@ impl Plan {
         self.work.and(charge)
     }
 
-    // What the pieces of a round want together.
-    pub fn share(self, charge: Length, round: Length) -> u64
-        requires { ⌜ Shareable charge self (round .0) ⌝ }
-        ensures { λ r. ⌜ (r ≡ share charge (round .0) self) × (r ≤ mostPiece * mostFeed) ⌝ }
+    // Whether a piece is due when the next one comes.
+    pub fn to_the_next(self) -> bool
+        ensures { λ r. ⌜ r ≡ toTheNext self ⌝ }
     {
-        self.charged(charge).0 * (round.0 / self.period.0)
+        self.lead.0 == self.period.0
+    }
+
+    // The most that the pieces that come and are due within so many ticks can want together.
+    pub fn stretch(self, charge: Length, ticks: Length) -> u64
+        requires { ⌜ PlanIn self × (charge .0 ≤ mostCharge) × (ticks .0 ≤ mostRound) ⌝ }
+        ensures { λ r. ⌜ (r ≡ stretch charge (ticks .0) self) × (r ≤ mostPiece * (mostRound + mostFeed)) ⌝ }
+    {
+        let ahead = ticks.and(self.period.less(self.lead));
+        self.charged(charge).0 * (ahead.0 / self.period.0)
     }
 }

@@ -14,7 +14,7 @@ use Rattle.lists.proofs.Places.{each-of-every}
 use Rattle.ticks.specs.Ticks.{ticks}
 use Rattle.plans.specs.Plans as plans
 use Rattle.feeds.specs.Feeds.{unusedFeed}
-use Rattle.feeds.specs.Round.{firstFrom, roundOf}
+use Rattle.feeds.specs.Round.{firstFrom, roundOf, carries}
 use Rattle.feeds.specs.Lines.{feedsPass, feedsIn}
 use Rattle.feeds.specs.Pieces.{pieceIn}
 use Rattle.jobs.specs.declared.Job.{Job}
@@ -166,7 +166,7 @@ tested-holds r e =
 
 -- THE TABLE HOLDS: every row passes, computed from the definitions alone
 pub the-table-holds : Each Holds table
-unfolding every tested openedOf feedsIn firstOf allOf plans.planIn roundOf firstFrom then pass asking opened edf.since
+unfolding every tested openedOf feedsIn firstOf allOf plans.planIn roundOf firstFrom carries then pass asking opened edf.since
     inOrder feedsPass passes unusedFeed plans.unusedPlan pieceIn tableIn lacks distinct unusedJob
     enough horizonOf lastDue latestOf plans.next plans.since owedBy byThen taking resting restOf
 the-table-holds = each-of-every tested Holds tested-holds table refl

@@ -2,6 +2,7 @@
 pub mod System
 pub mod Total
 pub mod Exact
+pub mod Carried
 pub mod Charge
 pub mod Kept
 pub mod Load

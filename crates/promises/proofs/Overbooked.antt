@@ -3,6 +3,7 @@ use mathlib.Core.Path.{_≡_, refl, sym, subst}
 use mathlib.Core.Logic.{inl, inr}
 use mathlib.Core.Bool.{Bool, true, false}
 use native.Mathlib.Omega.{arith}
+use Rattle.lists.specs.Lists.{Some}
 use Rattle.lists.proofs.Lists.{some-imp}
 use Rattle.jobs.specs.declared.Job.{Job}
 use Rattle.answers.specs.declared.Refusal.the-variants.{DoesNotFit}
@@ -13,7 +14,7 @@ use Rattle.edf.specs.Step.{step}
 use Rattle.edf.specs.Order as edf
 use Rattle.edf.specs.Kept.{Live, Current}
 use Rattle.edf.proofs.Plans.{kin}
-use Rattle.edf.proofs.Late.{late-job-stays, late-piece-gives-way}
+use Rattle.edf.proofs.Late.{late-job-stays, late-piece-gives-way, late-piece-is-over}
 use Rattle.edf.proofs.Overbooked.{overbooked-fits-nothing}
 use Rattle.ledger.specs.declared.Ledger.{Ledger}
 use Rattle.ledger.specs.State.{Sized, inOrder}
@@ -26,7 +27,7 @@ use Rattle.desk.specs.Calls.{stepLines, stepOf}
 use Rattle.desk.specs.Asking.{requested, with-job, Judged}
 use Rattle.desk.proofs.Asking.{admissible}
 use Rattle.desk.proofs.Reachable.{admissible-askable, rewritten-sized, step-few}
-use Rattle.promises.specs.Overbooked.{OverbookedTakesNothing, ALateJobStays, ALatePieceGivesWay}
+use Rattle.promises.specs.Overbooked.{OverbookedTakesNothing, ALateJobStays, OwesNothing, ALatePieceGivesWay}
 use Rattle.promises.proofs.Exact.{steps-in-order, step-hands-back, step-read}
 
 judged-no : (d : Desk) (j : Job) (r : Answer) → (Fits (with-job d j) → ⊥) → Judged d j r → r ≡ record { desk = d; verdict = No DoesNotFit }
@@ -70,6 +71,10 @@ a-late-job-stays d s e n due owes l late h =
 
 pub a-late-piece-gives-way : ALatePieceGivesWay
 unfolding ALatePieceGivesWay
-a-late-piece-gives-way d s e f m z =
-    subst (Current (f .position) _ (f .plan .work)) (sym (step-read d s e))
-    (late-piece-gives-way (book d) (f .position) (f .plan) (some-imp (λ g. g ≡ f) _ (λ g. kin g f) (book d .feeds) m) z)
+a-late-piece-gives-way d s e f m =
+    let here = some-imp (λ g. g ≡ f) _ (λ g. kin g f) (book d .feeds) m in
+    let read = sym (step-read d s e) in
+    record {
+      over = λ h k. subst (λ b. Some (OwesNothing f) (b .feeds)) read (late-piece-is-over (book d) (f .position) (f .plan) here h k);
+      next = λ z. subst (Current (f .position) _ (f .plan .work)) read (late-piece-gives-way (book d) (f .position) (f .plan) here z);
+    }

@@ -7,10 +7,12 @@ use Prim.Native.Nat.{ℕ, suc, pred, _≤_, _<_}
 use lib.Dec.{ltb}
 use Rattle.lists.specs.Lists.{Each, Pairs, keep}
 use Rattle.ticks.specs.Ticks.{ticks}
+use Rattle.feeds.specs.Round.{demand}
+use Rattle.feeds.specs.Lines.{feedsIn}
 use Rattle.mesh.specs.Bands.{workOf}
 use Rattle.mesh.specs.Meshes.{trianglesOf, meshLines}
 use Rattle.jobs.specs.declared.Job.{Job}
-use Rattle.answers.specs.declared.Refusal.the-variants.{DoesNotFit}
+use Rattle.answers.specs.declared.Refusal.the-variants.{DoesNotFit, TooMuchLoad}
 use Rattle.answers.specs.declared.Verdict.the-variants.{Yes, No}
 use Rattle.answers.specs.Answers.{firstOf}
 use Rattle.edf.specs.Book.{Feed, Book}
@@ -25,6 +27,7 @@ use Rattle.ledger.specs.Books.{whoIs}
 use Rattle.desk.specs.declared.Desk.{Desk}
 use Rattle.desk.specs.declared.Answer.{Answer}
 use Rattle.desk.specs.State.{book, rewritten}
+use Rattle.desk.specs.Opening.{openedOf}
 use Rattle.desk.specs.Calls.{disorder, stepLines, stepOf, runnerOf}
 use Rattle.desk.specs.Asking.{askLines, requested, with-job, Asked}
 use Rattle.questions.specs.Meshes.{AskedMesh}
@@ -58,6 +61,14 @@ unfoldable pub FitsIsRoom : Type 0
 FitsIsRoom =
     (d : Desk) (number work lead : ℕ) → Sized (d .ledger) → firstOf (askLines d number (ticks work) (ticks lead)) ≡ Yes
     → Fits (with-job d (requested d number work lead)) ↔ Room (with-job d (requested d number work lead))
+
+-- THE OPENING GIVES 10 EXACTLY IF, in some stretch of ticks, however long, the feeds released together want more than it has, the
+-- charge of each piece counted: a 10 has such a stretch, and a yes has none
+pub record TenIfSomeStretchWantsMore : Type 0 where
+  pub ten : (xs : List ℕ) (start charge : ℕ) → openedOf xs start charge .verdict ≡ No TooMuchLoad
+      → (L : ℕ) × (L < demand (ticks charge) L (feedsIn xs))
+  pub yes : (xs : List ℕ) (start charge : ℕ) → openedOf xs start charge .verdict ≡ Yes
+      → (L : ℕ) → demand (ticks charge) L (feedsIn xs) ≤ L
 
 -- the contract of an ask leaves one outcome, and so does that of an ask with a mesh; the other calls' contracts are equations
 pub record OneAnswer : Type 0 where

@@ -1,6 +1,6 @@
--- The starred bench examples of the rules as one table, row by row and in their order, and behind them rows where the charge
--- decides: a row is an opening at instant 0 with what it answers, and calls from there on, each with what it answers. 0 is yes,
--- any other number the refusal.
+-- The starred bench examples of the rules as one table, row by row and in their order, each feed due at its period's end, and
+-- behind them rows where the charge or a deadline length decides: a row is an opening at instant 0 with what it answers, and
+-- calls from there on, each with what it answers. 0 is yes, any other number the refusal.
 use mathlib.Core.Path.{_≡_}
 use mathlib.Core.List.{List, [], _∷_}
 use Prim.Native.Nat.{ℕ}
@@ -16,7 +16,7 @@ pub data Said : Type 0 where
   asks : ℕ → ℕ → ℕ → ℕ → Said
   rests : ℕ → ℕ → Said
 
--- a row: the feed list, three numbers a feed (period, work, offset), the charge, what the opening answers, and the calls
+-- a row: the feed list, four numbers a feed (period, work, offset, deadline length), the charge, what the opening answers, and the calls
 pub record Row : Type 0 where
   pub feeds : List ℕ
   pub charge : ℕ
@@ -47,11 +47,11 @@ Holds r = Then (r .opens) (Goes (r .calls)) (openedOf (r .feeds) 0 (r .charge))
 
 -- X of the bench examples
 abbrev pub x : List ℕ
-x = 4 ∷ 1 ∷ 0 ∷ 6 ∷ 2 ∷ 0 ∷ []
+x = 4 ∷ 1 ∷ 0 ∷ 4 ∷ 6 ∷ 2 ∷ 0 ∷ 6 ∷ []
 
 -- feeds that want every tick
 abbrev pub everyTick : List ℕ
-everyTick = 2 ∷ 1 ∷ 0 ∷ 4 ∷ 2 ∷ 0 ∷ []
+everyTick = 2 ∷ 1 ∷ 0 ∷ 2 ∷ 4 ∷ 2 ∷ 0 ∷ 4 ∷ []
 
 -- THE TABLE
 abbrev pub table : List Row
@@ -70,35 +70,52 @@ table =
     -- a layer that is rested leaves its tick
     ∷ row everyTick 0 (rests 1 0 ∷ asks 1 1 1 0 ∷ [])
     -- the job would be in time, and the layer late
-    ∷ row (4 ∷ 4 ∷ 0 ∷ []) 0 (asks 1 1 1 6 ∷ [])
+    ∷ row (4 ∷ 4 ∷ 0 ∷ 4 ∷ []) 0 (asks 1 1 1 6 ∷ [])
     -- the second job would be in time, and the first, promised before it, late
     ∷ row [] 0 (asks 1 3 4 0 ∷ asks 2 2 2 6 ∷ [])
-    -- four numbers are no whole feeds
-    ∷ row (4 ∷ 1 ∷ 0 ∷ 6 ∷ []) 12 []
+    -- a layer may not be due after the next one comes; three numbers are no whole feeds
+    ∷ row (4 ∷ 1 ∷ 0 ∷ 6 ∷ []) 2 []
+    ∷ row (4 ∷ 1 ∷ 0 ∷ []) 12 []
     -- periods 40,319 and 2: the round is too long. The rules name the periods alone; these works and offsets break no line
-    ∷ row (40319 ∷ 1 ∷ 0 ∷ 2 ∷ 1 ∷ 0 ∷ []) 9 []
+    ∷ row (40319 ∷ 1 ∷ 0 ∷ 40319 ∷ 2 ∷ 1 ∷ 0 ∷ 2 ∷ []) 9 []
     -- a half and two thirds are more than there is
-    ∷ row (2 ∷ 1 ∷ 0 ∷ 3 ∷ 2 ∷ 0 ∷ []) 10 []
+    ∷ row (2 ∷ 1 ∷ 0 ∷ 2 ∷ 3 ∷ 2 ∷ 0 ∷ 3 ∷ []) 10 []
     -- no feeds: a job of 4 by 4 fits, and under a charge of 1 it owes 5
     ∷ row [] 0 (asks 1 4 4 0 ∷ [])
     ∷ charged 1 [] 0 (asks 1 4 4 6 ∷ asks 1 4 5 0 ∷ [])
     -- each layer to come owes the charge too: by 8 the feed owes 4
-    ∷ charged 1 (4 ∷ 1 ∷ 0 ∷ []) 0 (asks 1 4 8 6 ∷ asks 1 3 8 0 ∷ [])
+    ∷ charged 1 (4 ∷ 1 ∷ 0 ∷ 4 ∷ []) 0 (asks 1 4 8 6 ∷ asks 1 3 8 0 ∷ [])
     -- so does a job that was taken before
     ∷ charged 1 [] 0 (asks 1 3 8 0 ∷ asks 2 4 8 6 ∷ asks 2 3 8 0 ∷ [])
     -- X under a charge of 1 wants every tick, and what a rested layer leaves is 2 of them
     ∷ charged 1 x 0 (asks 1 1 65536 6 ∷ rests 1 0 ∷ asks 1 2 6 6 ∷ asks 1 1 6 0 ∷ [])
     -- a layer that is rested leaves its tick and its charge
-    ∷ charged 1 (4 ∷ 3 ∷ 0 ∷ []) 0 (asks 1 3 4 6 ∷ rests 1 0 ∷ asks 1 3 4 0 ∷ [])
+    ∷ charged 1 (4 ∷ 3 ∷ 0 ∷ 4 ∷ []) 0 (asks 1 3 4 6 ∷ rests 1 0 ∷ asks 1 3 4 0 ∷ [])
     -- a feed that leaves a tick in four can pay a charge of 1 and not of 2; X under a charge of 2 wants 17 of 12
-    ∷ row (4 ∷ 3 ∷ 0 ∷ []) 0 []
-    ∷ charged 1 (4 ∷ 3 ∷ 0 ∷ []) 0 []
-    ∷ charged 2 (4 ∷ 3 ∷ 0 ∷ []) 10 []
+    ∷ row (4 ∷ 3 ∷ 0 ∷ 4 ∷ []) 0 []
+    ∷ charged 1 (4 ∷ 3 ∷ 0 ∷ 4 ∷ []) 0 []
+    ∷ charged 2 (4 ∷ 3 ∷ 0 ∷ 4 ∷ []) 10 []
     ∷ charged 2 x 10 []
     -- 16 is the highest charge, and 18 comes before the lines of the feeds
     ∷ charged 16 [] 0 []
     ∷ charged 17 [] 18 []
-    ∷ charged 17 (0 ∷ 0 ∷ 0 ∷ []) 18 []
-    ∷ charged 16 (0 ∷ 0 ∷ 0 ∷ []) 2 []
-    ∷ charged 17 (4 ∷ 1 ∷ 0 ∷ 6 ∷ []) 12 []
+    ∷ charged 17 (0 ∷ 0 ∷ 0 ∷ 0 ∷ []) 18 []
+    ∷ charged 16 (0 ∷ 0 ∷ 0 ∷ 0 ∷ []) 2 []
+    ∷ charged 17 (4 ∷ 1 ∷ 0 ∷ []) 12 []
+    -- a layer of 2 in 4 leaves its first tick to a short job only where it need not be done by 2
+    ∷ row (4 ∷ 2 ∷ 0 ∷ 4 ∷ []) 0 (asks 1 2 2 0 ∷ [])
+    ∷ row (4 ∷ 2 ∷ 0 ∷ 2 ∷ []) 0 (asks 1 2 2 6 ∷ asks 1 2 4 0 ∷ [])
+    -- with the layer at rest the next one comes at 4: a job of 5 by 5 is in time, and where that layer is due by 6, it is late
+    ∷ row (4 ∷ 2 ∷ 0 ∷ 4 ∷ []) 0 (rests 1 0 ∷ asks 1 5 5 0 ∷ [])
+    ∷ row (4 ∷ 2 ∷ 0 ∷ 2 ∷ []) 0 (rests 1 0 ∷ asks 1 5 5 6 ∷ asks 1 4 5 0 ∷ [])
+    -- two layers of 2 that are due 2 ticks after they come: at other times they would do, and 10 is judged as if they came together
+    ∷ row (4 ∷ 2 ∷ 0 ∷ 2 ∷ 4 ∷ 2 ∷ 2 ∷ 2 ∷ []) 10 []
+    ∷ row (4 ∷ 2 ∷ 0 ∷ 2 ∷ 4 ∷ 2 ∷ 2 ∷ 4 ∷ []) 0 []
+    -- due in the tick that they come: a charge is then too much
+    ∷ row (4 ∷ 1 ∷ 0 ∷ 1 ∷ []) 0 []
+    ∷ charged 1 (4 ∷ 1 ∷ 0 ∷ 1 ∷ []) 10 []
+    ∷ charged 1 (4 ∷ 1 ∷ 0 ∷ 2 ∷ []) 0 []
+    -- a deadline length from 1 to the period
+    ∷ row (4 ∷ 1 ∷ 0 ∷ 0 ∷ []) 2 []
+    ∷ row (4 ∷ 1 ∷ 0 ∷ 5 ∷ []) 2 []
     ∷ []

@@ -1,6 +1,6 @@
 -- A STATE IN ORDER THAT IS OVERBOOKED ALL THE SAME, handed in by somebody: it gets 6 from every ask that passes the earlier
 -- lines, and its steps follow the step rule (Exact). A job that such a step makes late stays in the table, so the state handed
--- back is out of order; a late piece gives way to the next.
+-- back is out of order; a late piece gives way at its deadline.
 use mathlib.Core.Path.{_≡_}
 use mathlib.Core.Bool.{false}
 use Prim.Native.Nat.{ℕ, suc, _+_, _-_, _≤_, _<_}
@@ -35,9 +35,18 @@ ALateJobStays =
     → (n due owes : ℕ) → Live n due owes (book d) → due ≤ suc (d .ledger .clock .0) → same (runner (book d) .who) (job n) < owes
     → Live n due (owes - same (runner (book d) .who) (job n)) (book (stepOf d .desk)) × (inOrder (stepOf d .desk .ledger) ≡ false)
 
--- at a feed's next release its current piece is the new one, owing all its work, whatever the old one still owed
+-- the feed at this position, by this plan, has nothing to get
+abbrev pub OwesNothing : Feed → Feed → Type 0
+OwesNothing f g = ((g .position ≡ f .position) × (g .plan ≡ f .plan)) × (g .owes ≡ 0)
+
+-- what becomes of a feed's piece, whatever it still owed: from its deadline on it owes nothing, and at the next release the new
+-- one stands there, owing all its charged work
+pub record GivesWay (d : Desk) (f : Feed) : Type 0 where
+  pub over : 1 ≤ since (f .plan) (suc (d .ledger .clock .0)) → f .plan .lead ≤ since (f .plan) (suc (d .ledger .clock .0))
+      → Some (OwesNothing f) (book (stepOf d .desk) .feeds)
+  pub next : since (f .plan) (suc (d .ledger .clock .0)) ≡ 0
+      → Current (f .position) (suc (d .ledger .clock .0) + f .plan .lead) (f .plan .work) (book (stepOf d .desk))
+
 unfoldable pub ALatePieceGivesWay : Type 0
 ALatePieceGivesWay =
-    (d : Desk) → Sized (d .ledger) → firstOf (stepLines d) ≡ Yes
-    → (f : Feed) → Some (λ g. g ≡ f) (book d .feeds) → since (f .plan) (suc (d .ledger .clock .0)) ≡ 0
-    → Current (f .position) (suc (d .ledger .clock .0) + f .plan .lead) (f .plan .work) (book (stepOf d .desk))
+    (d : Desk) → Sized (d .ledger) → firstOf (stepLines d) ≡ Yes → (f : Feed) → Some (λ g. g ≡ f) (book d .feeds) → GivesWay d f

@@ -48,11 +48,12 @@ fn feed_due_after(feed: Feed, clock: Instant, by: Instant, till: Instant) -> Ins
     requires { ⌜ FeedIn feed × Reach clock by × (by .0 < till .0) ⌝ }
     ensures { λ r. ⌜ ((charge : Length) → Until (λ D. feedOwes charge (clock .0) D feed) (by .0) (till .0) (r .0)) ⌝ }
 {
-    let due = feed.plan.due(clock);
-    if due.is_after(by) {
-        return due.earlier_of(till);
+    let first = clock.plus(feed.plan.lead);
+    let reached = by.plus(feed.plan.since(clock));
+    if first.is_after(reached) {
+        return by.plus(first.ticks_since(reached)).earlier_of(till);
     }
-    let over = Length(by.ticks_since(due).0 % feed.plan.period.0);
+    let over = Length(reached.ticks_since(first).0 % feed.plan.period.0);
     by.plus(feed.plan.period.less(over)).earlier_of(till)
 }
 

@@ -28,7 +28,7 @@ asks-once s line number work lead r t a b = go (s .opened) refl
 -- TWO REPLIES THAT A LINE ALLOWS ARE THE SAME
 pub heard-once : (s : Session) (line : ℕ) (means : Line) (r t : Reply) → Heard s line means r → Heard s line means t → r ≡ t
 unfolding Heard
-heard-once s line (Line.Feed period work offset) r t a b = a ∙ sym b
+heard-once s line (Line.Feed period work offset lead) r t a b = a ∙ sym b
 heard-once s line (Line.Go start charge) r t a b = a ∙ sym b
 heard-once s line (Line.Ask number work lead) r t a b = asks-once s line number work lead r t a b
 heard-once s line (Line.End number) r t a b = a ∙ sym b

@@ -83,7 +83,7 @@ tick-good s g = by-step GoodReply (desk.stepOf (s .desk) .verdict) _ _ (step-is-
 
 pub hear-good : (s : Session) (line : ℕ) (means : Line) (r : Reply) → Good (s .desk) → Heard s line means r → GoodReply r
 unfolding Heard feedOf goOf endOf restOf runOf
-hear-good s line (Line.Feed period work offset) r g h = subst GoodReply (sym h) (by-test GoodReply (s .opened || leb mostFeedLines (s .feeds)) _ _ g g)
+hear-good s line (Line.Feed period work offset lead) r g h = subst GoodReply (sym h) (by-test GoodReply (s .opened || leb mostFeedLines (s .feeds)) _ _ g g)
 hear-good s line (Line.Go start charge) r g h =
     subst GoodReply (sym h) (by-test GoodReply (s .opened || ltb mostFeedLines (s .feeds)) _ _ g (opening-is-good (take (numbersAFeed * s .feeds) (s .list)) start charge))
 hear-good s line (Line.Ask number work lead) r g h = go (s .opened) refl

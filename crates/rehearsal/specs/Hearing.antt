@@ -30,7 +30,7 @@ pub record AskOf (s : Session) (line number work lead : ℕ) (r : Reply) : Type 
 
 -- what a line answers by what it means
 unfoldable pub Heard : Session → ℕ → Line → Reply → Type 0
-Heard s line (Line.Feed period work offset) r = r ≡ feedOf s line period work offset
+Heard s line (Line.Feed period work offset lead) r = r ≡ feedOf s line period work offset lead
 Heard s line (Line.Go start charge) r = r ≡ goOf s line start charge
 Heard s line (Line.Ask number work lead) r = AskOf s line number work lead r
 Heard s line (Line.End number) r = r ≡ endOf s line number

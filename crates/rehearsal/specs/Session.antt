@@ -46,11 +46,13 @@ badOf s line =
     (Said.Bad line)
 
 -- the list with the numbers of one feed more
-abbrev pub fed : Session → ℕ → ℕ → ℕ → Session
-fed s period work offset =
+abbrev pub fed : Session → ℕ → ℕ → ℕ → ℕ → Session
+fed s period work offset lead =
     record {
       desk = s .desk;
-      list = set (set (set (s .list) (numbersAFeed * s .feeds) period) (numbersAFeed * s .feeds + 1) work) (numbersAFeed * s .feeds + 2) offset;
+      list = set
+          (set (set (set (s .list) (numbersAFeed * s .feeds) period) (numbersAFeed * s .feeds + 1) work) (numbersAFeed * s .feeds + 2) offset)
+          (numbersAFeed * s .feeds + 3) lead;
       feeds = s .feeds + 1;
       opened = s .opened;
       over = s .over;
@@ -58,9 +60,9 @@ fed s period work offset =
     }
 
 -- `feed`: only before `go`, and at most 17 of them
-unfoldable pub feedOf : Session → ℕ → ℕ → ℕ → ℕ → Reply
-feedOf s line period work offset =
-    cond (s .opened || leb mostFeedLines (s .feeds)) (badOf s line) (reply (fed s period work offset) Said.Nothing)
+unfoldable pub feedOf : Session → ℕ → ℕ → ℕ → ℕ → ℕ → Reply
+feedOf s line period work offset lead =
+    cond (s .opened || leb mostFeedLines (s .feeds)) (badOf s line) (reply (fed s period work offset lead) Said.Nothing)
 
 -- the session after an opening: it is over where the opening is refused
 abbrev pub gone : Session → Answer → Session

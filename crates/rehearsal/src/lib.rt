@@ -88,8 +88,8 @@ impl Session {
         }
     }
 
-    fn feed(self, line: usize, period: u32, work: u32, offset: u32) -> Reply
-        ensures { λ r. ⌜ r ≡ feedOf self line period work offset ⌝ }
+    fn feed(self, line: usize, period: u32, work: u32, offset: u32, lead: u32) -> Reply
+        ensures { λ r. ⌜ r ≡ feedOf self line period work offset lead ⌝ }
     {
         if self.opened {
             return self.bad(line);
@@ -102,6 +102,7 @@ impl Session {
         session.list[at] = period;
         session.list[at + 1] = work;
         session.list[at + 2] = offset;
+        session.list[at + 3] = lead;
         session.feeds = self.feeds + 1;
         Reply {
             session,
@@ -208,7 +209,7 @@ impl Session {
         ensures { λ r. ⌜ Heard self line means r ⌝ }
     {
         match means {
-            Line::Feed(period, work, offset) => self.feed(line, period, work, offset),
+            Line::Feed(period, work, offset, lead) => self.feed(line, period, work, offset, lead),
             Line::Go(start, charge) => self.go(line, start, charge),
             Line::Ask(number, work, lead) => self.ask(line, number, work, lead),
             Line::End(number) => self.end(line, number),

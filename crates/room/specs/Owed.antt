@@ -2,7 +2,7 @@
 use Prim.Native.Nat.{ℕ, _+_, _*_, _≤_}
 use Rattle.ticks.specs.declared.Instant.{Instant}
 use Rattle.ticks.specs.declared.Length.{Length}
-use Rattle.ticks.specs.Ticks.{lastInstant, mostJob, mostRound, mostCharge}
+use Rattle.ticks.specs.Ticks.{lastInstant, mostJob, mostFeed, mostRound, mostCharge}
 use Rattle.plans.specs.Plans.{mostPiece, due}
 use Rattle.feeds.specs.declared.Feed.{Feed}
 use Rattle.feeds.specs.Feeds.{FeedIn}
@@ -37,7 +37,7 @@ farthest = mostJob + mostRound
 
 -- the most that one feed owes by such an instant
 abbrev pub mostOfFeed : ℕ
-mostOfFeed = mostPiece * (farthest + 1)
+mostOfFeed = mostPiece * (farthest + mostFeed + 1)
 
 -- an instant that is looked at
 pub record Reach (clock by : Instant) : Type 0 where

@@ -44,16 +44,19 @@ pub fn jobs_owe(table: Table, by: Instant) -> u64
     sum
 }
 
-// The current piece counts from its deadline on, and from then on a whole piece more with every period.
+// The current piece counts from its deadline on, and from then on a whole piece more with every period. The lead from the clock
+// lies as far past the deadline as the instant and the time since the release past the instant, so no deadline before the first
+// instant has to be told.
 fn feed_owes(feed: Feed, charge: Length, clock: Instant, by: Instant) -> u64
     requires { ⌜ FeedOrdered charge clock feed × (charge .0 ≤ mostCharge) × Reach clock by ⌝ }
     ensures { λ r. ⌜ (r ≡ feedOwes charge (clock .0) (by .0) feed) × (r ≤ mostOfFeed) ⌝ }
 {
-    let due = feed.plan.due(clock);
-    if due.is_after(by) {
+    let first = clock.plus(feed.plan.lead);
+    let reached = by.plus(feed.plan.since(clock));
+    if first.is_after(reached) {
         return 0;
     }
-    let pieces = by.ticks_since(due).0 / feed.plan.period.0;
+    let pieces = reached.ticks_since(first).0 / feed.plan.period.0;
     feed.owes.0 + feed.plan.charged(charge).0 * pieces
 }
 

@@ -60,7 +60,7 @@ module _ (l : Ledger) (o : InOrder l) where
       let fs = inUse (l .feeds) in
       let gs = servedFeeds w fs in
       let x = suc (l .clock .0) in
-      arrived-turned (l .charge) (instant x) 1 gs (given-within w)
+      arrived-turned (l .charge) (instant x) 1 gs
       ∙ owing-as-alike (map (turnFeed x) (bookFeeds (l .charge) 1 gs)) gs fs (length-map (bookFeeds (l .charge) 1 gs) (turnFeed x) ∙ length-read (l .charge) 1 gs) (given-plans w fs)
       ∙ ap (λ ks. owingAs (map (turnFeed x) ks) fs) (feeds-given (l .charge) w fs)
       ∙ ap (λ g. owingAs (stepBy g (bookOf l) .feeds) fs) (sym e)

@@ -63,6 +63,10 @@ next t = instant (t .0 + 1)
 abbrev pub previous : Instant → Instant
 previous t = instant (t .0 - 1)
 
+-- so many ticks earlier, and the first instant where there are not so many
+abbrev pub back : Instant → Length → Instant
+back t l = instant (t .0 - l .0)
+
 -- an instant less an earlier one is a length
 abbrev pub ticksSince : Instant → Instant → Length
 ticksSince t earlier = ticks (t .0 - earlier .0)

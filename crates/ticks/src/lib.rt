@@ -5,7 +5,7 @@ ghost use Prim.Native.Nat.{_+_, _≤_, _<_, _^_};
 ghost use lib.Dec.{ltb, leb, eqb};
 ghost use Rattle.ticks.specs.Ticks.{lastInstant, mostJob, mostFeed, mostRound, mostCharge, within, fromOne, jobLength, owedLength};
 ghost use Rattle.ticks.specs.Ticks.{feedLength, sum};
-ghost use Rattle.ticks.specs.Ticks.{plus, next, previous, ticksSince, remainder, laterOf, earlierOf, less, instant, ticks};
+ghost use Rattle.ticks.specs.Ticks.{plus, next, previous, back, ticksSince, remainder, laterOf, earlierOf, less, instant, ticks};
 
 // A moment that the clock can read; tick t lies between the instants t and t + 1.
 #[repr(C)]
@@ -73,6 +73,16 @@ impl Instant {
         ensures { λ r. ⌜ r ≡ previous self ⌝ }
     {
         Instant(self.0 - 1)
+    }
+
+    // So many ticks earlier, and the first instant where there are not so many.
+    pub fn back(self, by: Length) -> Instant
+        ensures { λ r. ⌜ r ≡ back self by ⌝ }
+    {
+        if self.0 < by.0 {
+            return Instant::FIRST;
+        }
+        Instant(self.0 - by.0)
     }
 
     // How many ticks lie between an earlier instant and this one.
@@ -154,7 +164,7 @@ impl Length {
     }
 
     // From 1 tick up to the most.
-    fn from_one(self, most: Length) -> bool
+    pub fn from_one(self, most: Length) -> bool
         ensures { λ r. ⌜ r ≡ fromOne (most .0) self ⌝ }
     {
         if self.0 < 1 {

@@ -8,20 +8,20 @@ use Rattle.words.specs.declared.Found.{Found}
 use Rattle.words.specs.Text.{spelt}
 use Rattle.words.specs.Numbers.{isDigit, allDigits, counted, isShaped, numberOf, smallOf, digitsIn, digits}
 use Rattle.words.specs.Fields.{same, foundIn, lineEnd, fieldsOf}
-use Rattle.words.specs.Lines.{wordIn, oneOf, threeOf, goOf, saidOf, meaningOf, lineOf}
+use Rattle.words.specs.Lines.{wordIn, oneOf, threeOf, fourOf, goOf, saidOf, meaningOf, lineOf}
 
 -- each word with its numbers, and the largest of them
 pub good :
-    (lineOf (spelt "feed 4 1 0") ≡ Line.Feed 4 1 0)
+    (lineOf (spelt "feed 4 1 0 3") ≡ Line.Feed 4 1 0 3)
     × (lineOf (spelt "go 0 0") ≡ Line.Go 0 0)
     × (lineOf (spelt "ask 1 3 6") ≡ Line.Ask 1 3 6)
     × (lineOf (spelt "end 1") ≡ Line.End 1)
     × (lineOf (spelt "rest 16") ≡ Line.Rest 16)
     × (lineOf (spelt "run 12") ≡ Line.Run 12)
     × (lineOf (spelt "go 9999999999999 4294967295") ≡ Line.Go 9999999999999 4294967295)
-    × (lineOf (spelt "feed 4294967295 0 4294967295") ≡ Line.Feed 4294967295 0 4294967295)
+    × (lineOf (spelt "feed 4294967295 0 4294967295 1") ≡ Line.Feed 4294967295 0 4294967295 1)
     × (lineOf (spelt "run 4096") ≡ Line.Run 4096)
-unfolding lineOf meaningOf saidOf threeOf goOf oneOf wordIn fieldsOf same smallOf numberOf isShaped counted allDigits isDigit
+unfolding lineOf meaningOf saidOf threeOf fourOf goOf oneOf wordIn fieldsOf same smallOf numberOf isShaped counted allDigits isDigit
 good = (refl, refl, refl, refl, refl, refl, refl, refl, refl)
 
 -- nothing, no such word, another letter
@@ -30,22 +30,22 @@ no-words = "" ∷ " " ∷ "stop" ∷ "stop 1" ∷ "Go 0 0" ∷ "goo 0 0" ∷ "g 
 
 -- too few numbers, and too many
 abbrev pub other-counts : List String
-other-counts = "feed" ∷ "feed 4" ∷ "feed 4 1" ∷ "feed 4 1 0 0" ∷ "go" ∷ "go 0" ∷ "go 0 0 0" ∷ "ask 1 3" ∷ "ask 1 3 6 1" ∷ "end" ∷ "end 1 2" ∷ "rest" ∷ "run 1 1" ∷ []
+other-counts = "feed" ∷ "feed 4" ∷ "feed 4 1" ∷ "feed 4 1 0" ∷ "feed 4 1 0 4 0" ∷ "go" ∷ "go 0" ∷ "go 0 0 0" ∷ "ask 1 3" ∷ "ask 1 3 6 1" ∷ "end" ∷ "end 1 2" ∷ "rest" ∷ "run 1 1" ∷ []
 
 -- two spaces, one in front, one at the end
 abbrev pub other-spaces : List String
-other-spaces = "go  0 0" ∷ "go 0  0" ∷ " go 0 0" ∷ "go 0 0 " ∷ "feed 4  1 0" ∷ "feed 4 1 0 " ∷ "feed  4 1" ∷ "ask 1 3 " ∷ []
+other-spaces = "go  0 0" ∷ "go 0  0" ∷ " go 0 0" ∷ "go 0 0 " ∷ "feed 4  1 0 4" ∷ "feed 4 1 0 4 " ∷ "feed 4 1 0 " ∷ "feed  4 1 0" ∷ "ask 1 3 " ∷ []
 
 -- no number, a leading zero, 14 digits, one more than may be
 abbrev pub other-numbers : List String
-other-numbers = "go x 0" ∷ "go 0 x" ∷ "go -1 0" ∷ "go 1a 0" ∷ "go 00 0" ∷ "go 01 0" ∷ "go 0 01" ∷ "feed 4 01 0" ∷ "go 10000000000000 0" ∷ "go 0 4294967296" ∷ "end 4294967296" ∷ "rest 4294967296" ∷ "ask 1 4294967296 6" ∷ "feed 4 1 4294967296" ∷ "run 4097" ∷ "run 4294967296" ∷ []
+other-numbers = "go x 0" ∷ "go 0 x" ∷ "go -1 0" ∷ "go 1a 0" ∷ "go 00 0" ∷ "go 01 0" ∷ "go 0 01" ∷ "feed 4 01 0 4" ∷ "go 10000000000000 0" ∷ "go 0 4294967296" ∷ "end 4294967296" ∷ "rest 4294967296" ∷ "ask 1 4294967296 6" ∷ "feed 4 1 4294967296 4" ∷ "feed 4 1 0 4294967296" ∷ "feed x 1 0 4" ∷ "run 4097" ∷ "run 4294967296" ∷ []
 
 pub bad :
     (map (λ t. lineOf (spelt t)) no-words ≡ replicate 7 Line.Bad)
-    × (map (λ t. lineOf (spelt t)) other-counts ≡ replicate 13 Line.Bad)
-    × (map (λ t. lineOf (spelt t)) other-spaces ≡ replicate 8 Line.Bad)
-    × (map (λ t. lineOf (spelt t)) other-numbers ≡ replicate 16 Line.Bad)
-unfolding lineOf meaningOf saidOf threeOf goOf oneOf wordIn fieldsOf same smallOf numberOf isShaped counted allDigits isDigit
+    × (map (λ t. lineOf (spelt t)) other-counts ≡ replicate 14 Line.Bad)
+    × (map (λ t. lineOf (spelt t)) other-spaces ≡ replicate 9 Line.Bad)
+    × (map (λ t. lineOf (spelt t)) other-numbers ≡ replicate 18 Line.Bad)
+unfolding lineOf meaningOf saidOf threeOf fourOf goOf oneOf wordIn fieldsOf same smallOf numberOf isShaped counted allDigits isDigit
 bad = (refl, refl, refl, refl)
 
 -- the ends of two lines, and no third

@@ -11,12 +11,13 @@ use Rattle.words.specs.declared.Found.{Found}
 use Rattle.words.specs.declared.Number.{Number}
 use Rattle.words.specs.declared.Small.{Small}
 use Rattle.words.specs.declared.Three.{Three}
+use Rattle.words.specs.declared.Four.{Four}
 use Rattle.words.specs.declared.Word.{Word}
 use Rattle.words.specs.declared.Line.{Line}
 use Rattle.words.specs.Numbers.{isDigit, numberOf, smallOf}
 use Rattle.words.specs.Fields.{space, same, foundIn, fieldsOf}
 use Rattle.words.specs.Text.{spelt}
-use Rattle.words.specs.Lines.{wordIn, wordOf, oneOf, allThree, threeOf, going, goOf, saidOf, meaningOf, lineOf}
+use Rattle.words.specs.Lines.{wordIn, wordOf, oneOf, allThree, threeOf, andThree, fourOf, going, goOf, saidOf, meaningOf, lineOf}
 use Rattle.words.proofs.Fields.{Cut, found-at, cut-at, cut-nowhere, fields-some}
 use Rattle.words.proofs.Numbers.{digits-other, number-other}
 
@@ -99,6 +100,24 @@ three-of-two s j p e =
     ∙ three-two _ _ _
     ∙ third-missing (smallOf (numberOf (take j s))) (smallOf (numberOf (drop (j + 1) s))))
 
+-- four fields, cut at the space at k
+pub four-cut : (s : List ℕ) (k : ℕ) → Cut s 0 k
+    → fourOf (fieldsOf s) ≡ andThree (smallOf (numberOf (take k s))) (threeOf (fieldsOf (take (length s - (k + 1)) (drop (k + 1) s))))
+unfolding fourOf
+four-cut s k p =
+    ap fourOf (fields-cut s k p)
+    ∙ ap (λ l. andThree (smallOf (numberOf (take k s))) (threeOf (fieldsOf l))) (sym (rest-part s (k + 1)))
+
+others-missing : (a : Small) → andThree a (threeOf []) ≡ Four.Not
+unfolding threeOf
+others-missing (Small.Is a) = refl
+others-missing Small.Not = refl
+
+-- one field is not four
+pub four-of-one : (s : List ℕ) → foundIn space 0 s ≡ Found.Nothing → Four.Not ≡ fourOf (fieldsOf s)
+unfolding fourOf
+four-of-one s e = sym (ap fourOf (cut-nowhere s 0 e) ∙ others-missing (smallOf (numberOf s)))
+
 -- an opening's two fields, cut at the space at k
 pub go-cut : (s : List ℕ) (k : ℕ) → Cut s 0 k
     → goOf (fieldsOf s) ≡ going (numberOf (take k s)) (smallOf (numberOf (take (length s - (k + 1)) (drop (k + 1) s))))
@@ -119,7 +138,7 @@ go-of-one s e = sym (ap goOf (cut-nowhere s 0 e) ∙ charge-missing (numberOf s)
 
 -- a word alone says nothing
 said-alone : (w : Word) → saidOf w [] ≡ Line.Bad
-unfolding saidOf threeOf goOf oneOf smallOf
+unfolding saidOf threeOf fourOf goOf oneOf smallOf
 said-alone Word.Feed = refl
 said-alone Word.Go = refl
 said-alone Word.Ask = refl

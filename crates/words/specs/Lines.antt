@@ -7,6 +7,7 @@ use lib.Dec.{leb}
 use Rattle.words.specs.declared.Number.{Number}
 use Rattle.words.specs.declared.Small.{Small}
 use Rattle.words.specs.declared.Three.{Three}
+use Rattle.words.specs.declared.Four.{Four}
 use Rattle.words.specs.declared.Word.{Word}
 use Rattle.words.specs.declared.Line.{Line}
 use Rattle.words.specs.Text.{spelt}
@@ -54,6 +55,17 @@ threeOf [] = Three.Not
 threeOf (f ∷ []) = Three.Not
 threeOf (f ∷ g ∷ fs) = allThree (smallOf (numberOf f)) (smallOf (numberOf g)) (smallOf (oneOf fs))
 
+-- one number more in front of three
+abbrev pub andThree : Small → Three → Four
+andThree (Small.Is a) (Three.Are b c d) = Four.Are a b c d
+andThree (Small.Is a) Three.Not = Four.Not
+andThree Small.Not t = Four.Not
+
+-- the four numbers, where there are four fields and each is a number
+unfoldable pub fourOf : List (List ℕ) → Four
+fourOf [] = Four.Not
+fourOf (f ∷ fs) = andThree (smallOf (numberOf f)) (threeOf fs)
+
 abbrev pub runOf : ℕ → Line
 runOf n = cond (leb n mostRun) (Line.Run n) Line.Bad
 
@@ -73,13 +85,17 @@ abbrev pub withOne : (ℕ → Line) → Small → Line
 withOne f (Small.Is n) = f n
 withOne f Small.Not = Line.Bad
 
+abbrev pub withFour : (ℕ → ℕ → ℕ → ℕ → Line) → Four → Line
+withFour f (Four.Are a b c d) = f a b c d
+withFour f Four.Not = Line.Bad
+
 abbrev pub withThree : (ℕ → ℕ → ℕ → Line) → Three → Line
 withThree f (Three.Are a b c) = f a b c
 withThree f Three.Not = Line.Bad
 
 -- what a word says with the fields after it
 unfoldable pub saidOf : Word → List (List ℕ) → Line
-saidOf Word.Feed fs = withThree Line.Feed (threeOf fs)
+saidOf Word.Feed fs = withFour Line.Feed (fourOf fs)
 saidOf Word.Go fs = goOf fs
 saidOf Word.Ask fs = withThree Line.Ask (threeOf fs)
 saidOf Word.End fs = withOne Line.End (smallOf (oneOf fs))

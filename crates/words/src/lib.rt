@@ -3,7 +3,8 @@
 ghost use mathlib.Core.Path.{_≡_};
 ghost use Rattle.words.specs.Numbers.{isDigit, isShaped, numberOf, smallOf};
 ghost use Rattle.words.specs.Fields.{same, foundIn, lineEnd, fieldsOf};
-ghost use Rattle.words.specs.Lines.{wordOf, allThree, threeOf, going, goOf, runOf, saidOf, lineOf};
+ghost use Rattle.words.specs.Lines.{wordOf, allThree, threeOf, andThree, fourOf, going, goOf, runOf, saidOf};
+ghost use Rattle.words.specs.Lines.{lineOf};
 ghost use lib.ListN.{drop};
 
 pub mod put;
@@ -32,6 +33,12 @@ enum Three {
     Not,
 }
 
+// What the fields after a word are as four numbers.
+enum Four {
+    Are(u32, u32, u32, u32),
+    Not,
+}
+
 // The first field of a line.
 enum Word {
     Feed,
@@ -45,7 +52,7 @@ enum Word {
 
 // What a line says.
 pub enum Line {
-    Feed(u32, u32, u32),
+    Feed(u32, u32, u32, u32),
     Go(u64, u32),
     Ask(u32, u32, u32),
     End(u32),
@@ -186,6 +193,29 @@ fn read_three(s: &[u8]) -> Three
     )
 }
 
+// One number more in front of three.
+fn and_three(first: Small, others: Three) -> Four
+    ensures { λ r. ⌜ r ≡ andThree first others ⌝ }
+{
+    let Small::Is(a) = first else {
+        return Four::Not;
+    };
+    let Three::Are(b, c, d) = others else {
+        return Four::Not;
+    };
+    Four::Are(a, b, c, d)
+}
+
+fn read_four(s: &[u8]) -> Four
+    ensures { λ r. ⌜ r ≡ fourOf (fieldsOf (now (s .entry))) ⌝ }
+{
+    let Found::At(end) = find(s, 0, b' ') else {
+        return Four::Not;
+    };
+    let last = end + 1;
+    and_three(read_small(&s[..end]), read_three(&s[last..]))
+}
+
 // An opening by its instant and its charge.
 fn going(start: Number, charge: Small) -> Line
     ensures { λ r. ⌜ r ≡ going start charge ⌝ }
@@ -254,9 +284,9 @@ fn read_fields(word: Word, s: &[u8]) -> Line
     ensures { λ r. ⌜ r ≡ saidOf word (fieldsOf (now (s .entry))) ⌝ }
 {
     match word {
-        Word::Feed => match read_three(s) {
-            Three::Are(a, b, c) => Line::Feed(a, b, c),
-            Three::Not => Line::Bad,
+        Word::Feed => match read_four(s) {
+            Four::Are(a, b, c, d) => Line::Feed(a, b, c, d),
+            Four::Not => Line::Bad,
         },
         Word::Go => read_go(s),
         Word::Ask => match read_three(s) {

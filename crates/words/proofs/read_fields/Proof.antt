@@ -7,7 +7,7 @@ use Rattle.words.specs.declared.Line.{Line}
 use denote.Ref.{now}
 use Rattle.words.specs.Numbers.{smallOf}
 use Rattle.words.specs.Fields.{fieldsOf}
-use Rattle.words.specs.Lines.{saidOf, runOf, withOne, withThree}
+use Rattle.words.specs.Lines.{saidOf, runOf, withOne, withThree, withFour}
 use Rattle.words.proofs.Lines.{one-number}
 use borrow.Author.Needs.{needs}
 use Rattle.words.proofs.read_fields.Statement.{statement}
@@ -21,17 +21,17 @@ by-word : {w v : Word} (fs : List (List ℕ)) → w ≡ v → saidOf w fs ≡ sa
 by-word fs e = ap (λ w. saidOf w fs) e
 
 -- each word goes by what its numbers are read as
-feed : (c : tie.After-read-three) → said (c .before .before .before .before) ≡ withThree Line.Feed (c .read-three .result)
+feed : (c : tie.After-read-four) → said (c .before .before .before .before) ≡ withFour Line.Feed (c .read-four .result)
 unfolding saidOf
-feed c = by-word _ (c .before .enum-told .given .1) ∙ ap (withThree Line.Feed) (sym (c .read-three .ensures))
+feed c = by-word _ (c .before .enum-told .given .1) ∙ ap (withFour Line.Feed) (sym (c .read-four .ensures))
 
 go : (c : tie.After-read-go) → said (c .before .before .before .before) ≡ c .read-go .result
 unfolding saidOf
 go c = by-word _ (c .before .enum-told3 .given .1) ∙ sym (c .read-go .ensures)
 
-ask : (c : tie.After-read-three2) → said (c .before .before .before .before) ≡ withThree Line.Ask (c .read-three2 .result)
+ask : (c : tie.After-read-three) → said (c .before .before .before .before) ≡ withThree Line.Ask (c .read-three .result)
 unfolding saidOf
-ask c = by-word _ (c .before .enum-told4 .given .1) ∙ ap (withThree Line.Ask) (sym (c .read-three2 .ensures))
+ask c = by-word _ (c .before .enum-told4 .given .1) ∙ ap (withThree Line.Ask) (sym (c .read-three .ensures))
 
 end : (c : tie.After-read-small) → said (c .before .before .before .before) ≡ withOne Line.End (c .read-small .result)
 unfolding saidOf
@@ -77,8 +77,8 @@ read-fields-spec =
     (λ c κs. search needs)
     (λ c. search needs)
     (λ c. search needs)
-    (λ c. sym (feed (c .before .before .before) ∙ ap (withThree Line.Feed) (c .before .a .given .1)))
-    (λ c. sym (feed (c .before .before) ∙ ap (withThree Line.Feed) (c .enum-told2 .given .1)))
+    (λ c. sym (feed (c .before .before .before) ∙ ap (withFour Line.Feed) (c .before .a .given .1)))
+    (λ c. sym (feed (c .before .before) ∙ ap (withFour Line.Feed) (c .enum-told2 .given .1)))
     (λ c. sym (go c))
     (λ c. sym (ask (c .before .before .before) ∙ ap (withThree Line.Ask) (c .before .a2 .given .1)))
     (λ c. sym (ask (c .before .before) ∙ ap (withThree Line.Ask) (c .enum-told5 .given .1)))

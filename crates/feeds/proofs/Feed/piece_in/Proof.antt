@@ -28,14 +28,19 @@ owes c =
     let most = charged (a .charge) (a .self .plan) in
     le-leb (a .self .owes .0) most (ltb-false most (a .self .owes .0) (sym (more (c .before)) ∙ c .if1 .left))
 
+-- nothing is owed
+nothing : (c : tie.After-is-none) → c .is-none .result ≡ eqb (c .before .before .before .before .args .self .owes .0) 0
+nothing c = c .is-none .ensures
+
 -- whether the clock is below the offset, as the code told it
 early :
     (c : tie.After-is-after) →
     c .is-after .result
-    ≡ ltb (c .before .before .before .before .before .args .clock .0) (c .before .before .before .before .before .args .self .plan .offset .0)
+    ≡ ltb (c .before .before .before .before .before .before .before .args .clock .0)
+    (c .before .before .before .before .before .before .before .args .self .plan .offset .0)
 early c =
-    let clock = c .before .before .before .before .before .args .clock .0 in
-    let offset = c .before .before .before .before .before .args .self .plan .offset .0 in
+    let clock = c .before .before .before .before .before .before .before .args .clock .0 in
+    let offset = c .before .before .before .before .before .before .before .args .self .plan .offset .0 in
     let sum : c .before .plus .result .0 ≡ 0 + offset = ap (λ t. t .0) (c .before .plus .ensures) in
     let first : c .before .plus .result .0 ≡ offset = omega arith in
     c .is-after .ensures ∙ ap (ltb clock) first
@@ -50,18 +55,30 @@ returns c =
 returns-2 : tie.Need-returns-2
 unfolding pieceIn
 returns-2 c =
-    let f = c .before .before .before .before .before .before .before .args .self in
-    let below = ltb-true _ (f .plan .offset .0) (sym (early (c .before .before)) ∙ c .before .if2 .taken) in
-    passes _ _ _ (owes (c .before .before .before .before))
-    (last _ _ (c .is-none .ensures ∙ sym (ap (λ b. b || eqb (f .owes .0) 0) (lt-leb (f .plan .offset .0) _ below))))
+    let none = sym (nothing (c .before)) ∙ c .if2 .taken in
+    passes _ _ _ (owes (c .before .before))
+    (last _ _ (rw none))
 
 returns-3 : tie.Need-returns-3
 unfolding pieceIn
 returns-3 c =
-    let f = c .before .before .before .before .before .before .args .self in
-    let reached = ltb-false _ (f .plan .offset .0) (sym (early (c .before)) ∙ c .if2 .left) in
-    passes _ _ _ (owes (c .before .before .before))
-    (last _ _ (sym (ap (λ b. b || eqb (f .owes .0) 0) (le-leb (f .plan .offset .0) _ reached))))
+    let k = c .before .before .before in
+    let f = k .before .before .before .before .before .args .self in
+    let some = sym (nothing (k .before)) ∙ k .if2 .left in
+    let below = ltb-true _ (f .plan .offset .0) (sym (early (c .before)) ∙ c .if3 .taken) in
+    passes _ _ _ (owes (k .before .before))
+    (last _ _ (rw (some, lt-leb (f .plan .offset .0) _ below)))
+
+returns-4 : tie.Need-returns-4
+unfolding pieceIn
+returns-4 c =
+    let e = c .before .before in
+    let k = e .before .before .before in
+    let f = k .before .before .before .before .before .args .self in
+    let some = sym (nothing (k .before)) ∙ k .if2 .left in
+    let reached = ltb-false _ (f .plan .offset .0) (sym (early (e .before)) ∙ e .if3 .left) in
+    passes _ _ _ (owes (k .before .before))
+    (last _ _ (c .is-longer2 .ensures ∙ ap (λ l. ltb (l .0) (f .plan .lead .0)) (c .before .since .ensures) ∙ rw (some, le-leb (f .plan .offset .0) _ reached)))
 
 pub piece-in-spec : {M : Type 1} → statement M
 piece-in-spec =
@@ -71,7 +88,10 @@ piece-in-spec =
     (λ c κs. search needs)
     returns
     (λ c κs. search needs)
-    (λ c κs. search needs)
-    (λ c κs. search needs)
     returns-2
-    returns-3)
+    (λ c κs. search needs)
+    (λ c κs. search needs)
+    returns-3
+    (λ c κs. let p = c .before .before .before .before .before .before .before .before .pre in (p .0, p .2))
+    (λ c κs. search needs)
+    returns-4)

@@ -56,7 +56,7 @@ pieces-in-requires c κs =
     let k = c .before .before in
     let start = k .before .before .before .before .before in
     let lines = feedLines (start .args .charge) (inUse (start .args .self)) in
-    (k .before .before .before .if1 .left, not-false _ (yes-first _ _ (passes-yes lines (pass k)) .0), start .pre)
+    (record { few = k .before .before .before .if1 .left; within = not-false _ (yes-first _ _ (passes-yes lines (pass k)) .0) }, start .pre .0, start .pre .1)
 
 pub in-order-spec : {M : Type 1} → statement M
 in-order-spec =

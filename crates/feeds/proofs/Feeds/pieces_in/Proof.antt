@@ -24,7 +24,7 @@ piece-in-requires c κs =
     let start = c .before .before .before in
     let s = start .args .t1 in
     let long : length (s .feeds) ≡ 16 = search (needs, length-mapped) in
-    (feed-in-use s (c .before .before .loop .i) (start .pre .1) (c .before .loop-test .taken) (omega (arith, start .pre .0)), start .pre .2)
+    (feed-in-use s (c .before .before .loop .i) (start .pre .0 .within) (c .before .loop-test .taken) (omega (arith, start .pre .0 .few)), start .pre .1, start .pre .2)
 
 returns : tie.Need-returns Inv-loop μ-loop
 returns c =

@@ -1,14 +1,14 @@
 -- `feeds::Feeds::sound` meets its contract: each return goes by the lines that led there.
 use mathlib.Core.Path.{_≡_, sym, ap, _∙_}
 use mathlib.Core.Bool.{true}
-use lib.Dec.{leb, ltb}
+use lib.Dec.{leb}
 use native.Mathlib.Omega.{arith}
 use borrow.Author.Needs.{needs}
-use borrow.Author.Tests.{not-true, not-false, leb-true, ltb-true, ltb-false}
+use borrow.Author.Tests.{not-true, not-false, leb-true}
 use Rattle.ticks.specs.Ticks.{mostRound}
 use Rattle.lists.specs.Lists.{every}
 use Rattle.feeds.specs.Feeds.{feedIn, inUse}
-use Rattle.feeds.specs.Round.{periods, roundOf, load}
+use Rattle.feeds.specs.Round.{periods, roundOf, carries}
 use Rattle.feeds.proofs.Lines.{feeds-outside, feeds-too-long, feeds-too-much, feeds-yes}
 use Rattle.feeds.proofs.Feeds.sound.Statement.{statement}
 use Rattle.feeds.proofs.Feeds.sound.Tie as tie
@@ -27,21 +27,6 @@ short :
     leb (roundOf (periods (inUse (c .before .before .before .before .before .args .self)))) mostRound ≡ true
 short c = sym (the-test (c .before)) ∙ not-false _ (c .if2 .left)
 
--- whether the load is more than the round, as the code told it
-too-much :
-    (c : tie.After-is-longer) →
-    c .is-longer .result
-    ≡ ltb (roundOf (periods (inUse (c .before .before .before .before .before .before .before .args .self))))
-    (load (c .before .before .before .before .before .before .before .args .charge) (roundOf (periods (inUse (c .before .before .before .before .before .before .before .args .self))))
-    (inUse (c .before .before .before .before .before .before .before .args .self)))
-too-much c =
-    let charge = c .before .before .before .before .before .before .before .args .charge in
-    let fs = inUse (c .before .before .before .before .before .before .before .args .self) in
-    let round = c .before .before .before .before .round .ensures in
-    c .is-longer .ensures
-    ∙ ap (λ l. ltb (c .before .before .before .before .round .result .0) (l .0)) (c .before .load .ensures)
-    ∙ ap (λ l. ltb (l .0) (load charge (l .0) fs)) round
-
 returns : tie.Need-returns
 returns c = sym (feeds-outside _ _ (sym (c .before .all-within .ensures) ∙ not-true _ (c .if1 .taken)))
 
@@ -52,25 +37,32 @@ returns-2 : tie.Need-returns-2
 returns-2 c =
     sym (feeds-too-long _ _ (within (c .before .before .before)) (sym (the-test (c .before)) ∙ not-true _ (c .if2 .taken)))
 
-load-requires : tie.Need-load-requires
-load-requires c κs =
+-- whether every stretch has what it wants, as the code told it
+bears :
+    (c : tie.After-bears) →
+    c .bears .result
+    ≡ carries (c .before .before .before .before .before .before .args .charge)
+    (roundOf (periods (inUse (c .before .before .before .before .before .before .args .self))))
+    (inUse (c .before .before .before .before .before .before .args .self))
+bears c =
+    let a = c .before .before .before .before .before .before .args in
+    c .bears .ensures ∙ ap (λ l. carries (a .charge) (l .0) (inUse (a .self))) (c .before .before .before .round .ensures)
+
+bears-requires : tie.Need-bears-requires
+bears-requires c κs =
+    let start = c .before .before .before .before .before in
     let test = leb-true _ _ (sym (c .before .suits-round .ensures) ∙ not-false _ (c .if2 .left)) in
-    let pre = c .before .before .before .before .before .pre in
-    (pre .0, within (c .before .before .before), omega (arith, pre .1), test)
+    (record { few = start .pre .0; within = within (c .before .before .before) }, omega (arith, start .pre .1), test, c .before .before .round .ensures)
 
 returns-3 : tie.Need-returns-3
 returns-3 c =
-    let s = c .before .before .before in
-    sym
-    (feeds-too-much _ _ (within (s .before .before .before)) (short s)
-    (ltb-true _ _ (sym (too-much (c .before)) ∙ c .if3 .taken)))
+    let s = c .before .before in
+    sym (feeds-too-much _ _ (within (s .before .before .before)) (short s) (sym (bears (c .before)) ∙ not-true _ (c .if3 .taken)))
 
 returns-4 : tie.Need-returns-4
 returns-4 c =
-    let s = c .before .before .before in
-    sym
-    (feeds-yes _ _ (within (s .before .before .before)) (short s)
-    (ltb-false _ _ (sym (too-much (c .before)) ∙ c .if3 .left)))
+    let s = c .before .before in
+    sym (feeds-yes _ _ (within (s .before .before .before)) (short s) (sym (bears (c .before)) ∙ not-false _ (c .if3 .left)))
 
 pub sound-spec : {M : Type 1} → statement M
 sound-spec =
@@ -81,7 +73,6 @@ sound-spec =
     round-requires
     (λ c κs. search needs)
     returns-2
-    load-requires
-    (λ c κs. search needs)
+    bears-requires
     returns-3
     returns-4)

@@ -7,7 +7,7 @@ use native.Mathlib.Omega.{arith}
 use borrow.Author.Needs.{needs}
 use borrow.Author.Tests.{not-true, not-false, leb-true}
 use Rattle.lists.proofs.Tests.{passes, fails, last}
-use Rattle.ticks.specs.Ticks.{mostCharge, within}
+use Rattle.ticks.specs.Ticks.{lastInstant, mostCharge, within}
 use Rattle.ledger.specs.State.{inOrder}
 use Rattle.ledger.proofs.Ledger.in_order.Statement.{statement}
 use Rattle.ledger.proofs.Ledger.in_order.Tie as tie
@@ -15,6 +15,9 @@ use Rattle.ledger.proofs.Ledger.in_order.Tie as tie
 -- the clock and the charge are within their limits
 clock-in : (c : tie.Else1) → within (c .before .before .args .self .clock) ≡ true
 clock-in c = sym (c .before .within .ensures) ∙ not-false _ (c .if1 .left)
+
+reads : (c : tie.Else1) → c .before .before .args .self .clock .0 ≤ lastInstant
+reads c = leb-true _ _ (clock-in c)
 
 charge-in : (c : tie.Else2) → leb (c .before .before .before .before .args .self .charge .0) mostCharge ≡ true
 charge-in c = sym (c .before .suits-charge .ensures) ∙ not-false _ (c .if2 .left)
@@ -55,7 +58,7 @@ in-order-spec =
     returns
     (λ c κs. search needs)
     returns-2
-    (λ c κs. omega (arith, low c))
+    (λ c κs. (omega (arith, low c), omega (arith, reads (c .before .before))))
     returns-3
     (λ c κs. omega (arith, low (c .before .before)))
     returns-4)

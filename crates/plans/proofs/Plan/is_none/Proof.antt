@@ -20,9 +20,27 @@ returns-2 c =
 returns-3 : tie.Need-returns-3
 unfolding unusedPlan
 returns-3 c =
-    passes _ _ _ (sym (c .before .before .before .before .is-none .ensures) ∙ not-false _ (c .before .before .before .if1 .left))
-    (passes _ _ _ (sym (c .before .before .is-none2 .ensures) ∙ not-false _ (c .before .if2 .left))
-    (last _ _ (c .is-none3 .ensures)))
+    passes _ _ _ (sym (c .before .before .before .before .before .is-none .ensures) ∙ not-false _ (c .before .before .before .before .if1 .left))
+    (passes _ _ _ (sym (c .before .before .before .is-none2 .ensures) ∙ not-false _ (c .before .before .if2 .left))
+    (fails _ _ (sym (c .before .is-none3 .ensures) ∙ not-true _ (c .if3 .taken))))
+
+returns-4 : tie.Need-returns-4
+unfolding unusedPlan
+returns-4 c =
+    passes _ _ _ (sym (c .before .before .before .before .before .before .is-none .ensures) ∙ not-false _ (c .before .before .before .before .before .if1 .left))
+    (passes _ _ _ (sym (c .before .before .before .before .is-none2 .ensures) ∙ not-false _ (c .before .before .before .if2 .left))
+    (passes _ _ _ (sym (c .before .before .is-none3 .ensures) ∙ not-false _ (c .before .if3 .left))
+    (last _ _ (c .is-none4 .ensures))))
 
 pub is-none-spec : {M : Type 1} → statement M
-is-none-spec = tie.close (tie.spec (λ c κs. search needs) returns (λ c κs. search needs) returns-2 (λ c κs. search needs) returns-3)
+is-none-spec =
+    tie.close
+    (tie.spec
+    (λ c κs. search needs)
+    returns
+    (λ c κs. search needs)
+    returns-2
+    (λ c κs. search needs)
+    returns-3
+    (λ c κs. search needs)
+    returns-4)
