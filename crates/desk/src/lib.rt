@@ -110,7 +110,8 @@ impl Desk {
         Desk::open_at(feeds::taken(list), charge, clock)
     }
 
-    // The opening of feeds that lines 12 and 8 let pass, under a charge within its limit, at an instant that the clock can read.
+    // The opening of feeds that lines 12 and 8 let pass, under a charge within its limit, at an instant that the clock can
+    // read.
     fn open_at(feeds: Feeds, charge: Length, clock: Instant) -> Answer
         requires { ⌜ Tidy feeds × Fresh (inUse feeds) × (charge .0 ≤ mostCharge) × (clock .0 ≤ lastInstant) ⌝ }
         ensures { λ r. ⌜ r ≡ openedAt (inUse feeds) charge clock ⌝ }

@@ -33,6 +33,7 @@ pub record Job : Type 0 where
   pub owes : ℕ
   pub due : ℕ
 
+-- the clock, the feeds in list order and the live jobs
 pub record Book : Type 0 where
   pub clock : ℕ
   pub feeds : List Feed

@@ -27,9 +27,11 @@ gets c p = during (goesTo c p) (p .from) (p .due - p .from)
 abbrev pub Served : ℕ → Choice → Piece → Type 0
 Served F c p = p .due ≤ F → p .owes ≤ gets c p
 
+-- by this choice every piece of work that is due by F gets all it still owes: those at hand, and of each feed every later one
 pub record Serves (b : Book) (F : ℕ) (c : Choice) : Type 0 where
   pub hand : Each (Served F c) (atHand b)
   pub later : (k : ℕ) → Each (λ f. Served F c (laterPiece (b .clock) k f)) (b .feeds)
 
+-- for every instant after the clock there is such a choice
 unfoldable pub Fits : Book → Type 0
 Fits b = (F : ℕ) → b .clock < F → (c : Choice) × Serves b F c

@@ -23,6 +23,7 @@ pub record JobInOrder (t : ℕ) (j : Job) : Type 0 where
   pub owes : 1 ≤ j .owes
   pub ahead : t < j .due
 
+-- what every state that the desk lets pass is read as: each feed and each job in order at the clock's instant, and told apart
 pub record InOrder (b : Book) : Type 0 where
   pub feeds : Each (FeedInOrder (b .clock)) (b .feeds)
   pub jobs : Each (JobInOrder (b .clock)) (b .jobs)
