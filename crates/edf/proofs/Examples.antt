@@ -1,6 +1,6 @@
 -- The rules' own examples, computed from the definitions.
 use mathlib.Core.Path.{_≡_, refl}
-use mathlib.Core.List.{List, [], _∷_}
+use mathlib.Core.List.{List, [], _∷_, map}
 use Prim.Native.Nat.{ℕ, zero, suc}
 use native.Mathlib.Omega.{arith}
 use lib.Dec.{lit<}
@@ -9,7 +9,7 @@ use Rattle.edf.specs.Book.{Feed, Job, Book, Who, job, feed, idle, same}
 use Rattle.edf.specs.Releases.{since}
 use Rattle.edf.specs.Fits.{Fits}
 use Rattle.edf.specs.Owed.{byThen, owedBy, Room}
-use Rattle.edf.specs.Step.{first, sooner, goesBefore, foremost, runner, serve, turned, turn, stepBy, step}
+use Rattle.edf.specs.Step.{first, sooner, goesBefore, foremost, runner, ran, serve, turned, turn, stepBy, step}
 use Rattle.edf.specs.Order.{InOrder}
 use Rattle.edf.specs.Calls.{taking, resting}
 use Rattle.edf.specs.Load.{opened}
@@ -37,6 +37,22 @@ pub twelve-ticks : naming 12 (taking (request 1 3 6) X)
     ≡ feed 1 ∷ job 1 ∷ job 1 ∷ job 1 ∷ feed 2 ∷ feed 2 ∷ feed 1 ∷ feed 2 ∷ feed 1 ∷ feed 2 ∷ idle ∷ idle ∷ []
 unfolding taking opened runner foremost goesBefore sooner first step stepBy turn serve turned since same eq
 twelve-ticks = refl
+
+-- an overbooked state: a layer of 2 ticks that came at 0 is due by 2 and owes both at 1
+abbrev late : Book
+late =
+    record {
+      clock = 1;
+      feeds = record { position = 1; plan = record { period = 4; work = 2; offset = 0; lead = 2 }; owes = 2 } ∷ [];
+      jobs = [];
+    }
+
+-- it gets a tick, is told to owe one more, and gives way at 2; the next one comes at 4, whole
+pub gives-way-before-the-next : (ran late ≡ record { who = feed 1; owes = 1 })
+    × (map (λ f. f .owes) (step late .feeds) ≡ 0 ∷ [])
+    × (naming 4 late ≡ feed 1 ∷ idle ∷ idle ∷ feed 1 ∷ [])
+unfolding ran runner foremost goesBefore sooner first step stepBy turn serve turned since same eq
+gives-way-before-the-next = (refl, refl, refl)
 
 -- X, work 4 lead 6: 7 owed by instant 6
 pub seven-by-six : owedBy (taking (request 1 4 6) X) 6 ≡ 7

@@ -111,6 +111,9 @@ table =
     -- two layers of 2 that are due 2 ticks after they come: at other times they would do, and 10 is judged as if they came together
     ∷ row (4 ∷ 2 ∷ 0 ∷ 2 ∷ 4 ∷ 2 ∷ 2 ∷ 2 ∷ []) 10 []
     ∷ row (4 ∷ 2 ∷ 0 ∷ 2 ∷ 4 ∷ 2 ∷ 2 ∷ 4 ∷ []) 0 []
+    -- a stretch longer than any period decides: in 11 ticks three layers of 2 and two of 3 come and are due
+    ∷ row (4 ∷ 2 ∷ 0 ∷ 3 ∷ 6 ∷ 3 ∷ 0 ∷ 5 ∷ []) 10 []
+    ∷ row (4 ∷ 2 ∷ 0 ∷ 3 ∷ 6 ∷ 3 ∷ 0 ∷ 6 ∷ []) 0 []
     -- due in the tick that they come: a charge is then too much
     ∷ row (4 ∷ 1 ∷ 0 ∷ 1 ∷ []) 0 []
     ∷ charged 1 (4 ∷ 1 ∷ 0 ∷ 1 ∷ []) 10 []
