@@ -19,13 +19,14 @@ extern "C" {
 #endif
 
 /* One more with every change of a struct, a call or a number below. */
-#define DESK_VERSION 2
+#define DESK_VERSION 3
 
 /* An instant is a reading of the clock, a whole number of ticks; this is the last one, 2 to the 40th. */
 #define DESK_LAST_INSTANT UINT64_C(1099511627776)
 
 /* The other limits. Lengths are in ticks; each goes from 1, but for an offset, which goes from 0 to its period less 1, and
- * a charge, which goes from 0. A work is within its limit without the charge. */
+ * a charge, which goes from 0. A feed's deadline length goes to its period. A work is within its limit without the
+ * charge. */
 enum {
     DESK_MOST_JOBS = 64,          /* live at once */
     DESK_MOST_FEEDS = 16,
@@ -38,7 +39,7 @@ enum {
 
 /* How many numbers or bytes there are of each thing in a lent list. */
 enum {
-    DESK_NUMBERS_A_FEED = 3,      /* in the list of an opening: period, work, offset */
+    DESK_NUMBERS_A_FEED = 4,      /* in the list of an opening: period, work, offset, deadline length */
     DESK_NUMBERS_A_JOB = 3,       /* in the buffer of a list: number, owed, deadline */
     DESK_BYTES_OF_FRONT = 84,     /* of a mesh file: its header of 80 and its triangle count */
     DESK_BYTES_A_JOB_LABEL = 12,  /* the job's number, big-endian in 4, and its label in 8 */
@@ -49,7 +50,7 @@ enum {
 enum {
     DESK_YES = 0,
     DESK_NUMBER_ZERO = 1,         /* job number 0 */
-    DESK_OUTSIDE = 2,             /* a length or offset outside its limits */
+    DESK_OUTSIDE = 2,             /* a length or offset outside its limits, a feed's deadline length too */
     DESK_PAST_LAST = 3,           /* the clock, or the deadline, would lie past the last instant */
     DESK_NUMBER_LIVE = 4,         /* the number is live */
     DESK_FULL = 5,                /* 64 jobs are live */
@@ -57,9 +58,10 @@ enum {
     DESK_NOTHING_THERE = 7,       /* no such live job; no such feed, or its current piece owes nothing or hasn't come */
     DESK_TOO_MANY_FEEDS = 8,      /* more than 16 feeds */
     DESK_ROUND_TOO_LONG = 9,      /* round above 40,320 */
-    DESK_TOO_MUCH_LOAD = 10,      /* in a round the feeds alone, charges and all, want more ticks than it has */
+    DESK_TOO_MUCH_LOAD = 10,      /* in some stretch of ticks the feeds alone, released together, charges and all, want more
+                                   * than it has */
     DESK_SHORT_BUFFER = 11,       /* buffer shorter than three numbers a live job */
-    DESK_NOT_WHOLE_FEEDS = 12,    /* feed list length not a multiple of 3 */
+    DESK_NOT_WHOLE_FEEDS = 12,    /* feed list length not a multiple of 4 */
     DESK_NOT_IN_ORDER = 13,       /* state not in order */
     DESK_SHORT_FRONT = 15,        /* fewer than 84 bytes lent of a mesh file */
     DESK_WRONG_LENGTH = 16,       /* a mesh file's length is not 84 and 50 for each of its triangles */
@@ -74,11 +76,13 @@ enum { DESK_IDLE = 0, DESK_JOB = 1, DESK_FEED = 2 };
 enum { DESK_JOB_LABELS = 1, DESK_FEED_LABELS = 2 };
 
 /* A feed releases a piece at each instant that leaves the remainder `offset` when divided by `period`. The piece owes
- * `work` ticks and the charge; `owes` is what the current one still owes of them, 0 where none has come. */
+ * `work` ticks and the charge; `lead` is how many ticks after it came a piece is due. `owes` is what the current one still
+ * owes, 0 where none has come and from its deadline on. */
 typedef struct DeskFeed {
     uint64_t period;
     uint64_t work;
     uint64_t offset;
+    uint64_t lead;
     uint64_t owes;
 } DeskFeed;
 
@@ -132,7 +136,8 @@ typedef struct DeskReason {
 } DeskReason;
 
 /* Whom the tick went to: `number` is the job's number or the feed's position, `owes` what that piece of work still owes
- * after the tick, before any release. Idle, and kind, number and owes 0, where the step is refused. */
+ * after the tick, before any release and before a late piece gives way. Idle, and kind, number and owes 0, where the step
+ * is refused. */
 typedef struct DeskStepped {
     Desk desk;
     uint32_t refusal;
@@ -164,12 +169,13 @@ typedef struct DeskLabel {
 #define DESK_PLACE(type, field, at) DESK_HOLDS(offsetof(type, field) == (at), "the place of " #field " in " #type)
 
 DESK_SIZE(size_t, 8);
-DESK_SIZE(DeskFeed, 32);
+DESK_SIZE(DeskFeed, 40);
 DESK_PLACE(DeskFeed, period, 0);
 DESK_PLACE(DeskFeed, work, 8);
 DESK_PLACE(DeskFeed, offset, 16);
-DESK_PLACE(DeskFeed, owes, 24);
-DESK_SIZE(DeskFeeds, 520);
+DESK_PLACE(DeskFeed, lead, 24);
+DESK_PLACE(DeskFeed, owes, 32);
+DESK_SIZE(DeskFeeds, 648);
 DESK_PLACE(DeskFeeds, count, 0);
 DESK_PLACE(DeskFeeds, feeds, 8);
 DESK_SIZE(DeskJob, 24);
@@ -179,14 +185,14 @@ DESK_PLACE(DeskJob, deadline, 16);
 DESK_SIZE(DeskTable, 1544);
 DESK_PLACE(DeskTable, count, 0);
 DESK_PLACE(DeskTable, jobs, 8);
-DESK_SIZE(Desk, 2080);
+DESK_SIZE(Desk, 2208);
 DESK_PLACE(Desk, clock, 0);
 DESK_PLACE(Desk, charge, 8);
 DESK_PLACE(Desk, feeds, 16);
-DESK_PLACE(Desk, table, 536);
-DESK_SIZE(DeskAnswer, 2088);
+DESK_PLACE(Desk, table, 664);
+DESK_SIZE(DeskAnswer, 2216);
 DESK_PLACE(DeskAnswer, desk, 0);
-DESK_PLACE(DeskAnswer, refusal, 2080);
+DESK_PLACE(DeskAnswer, refusal, 2208);
 DESK_SIZE(DeskReason, 48);
 DESK_PLACE(DeskReason, refusal, 0);
 DESK_PLACE(DeskReason, at, 8);
@@ -194,12 +200,12 @@ DESK_PLACE(DeskReason, jobs, 16);
 DESK_PLACE(DeskReason, feeds, 24);
 DESK_PLACE(DeskReason, job, 32);
 DESK_PLACE(DeskReason, margin, 40);
-DESK_SIZE(DeskStepped, 2104);
+DESK_SIZE(DeskStepped, 2232);
 DESK_PLACE(DeskStepped, desk, 0);
-DESK_PLACE(DeskStepped, refusal, 2080);
-DESK_PLACE(DeskStepped, kind, 2084);
-DESK_PLACE(DeskStepped, number, 2088);
-DESK_PLACE(DeskStepped, owes, 2096);
+DESK_PLACE(DeskStepped, refusal, 2208);
+DESK_PLACE(DeskStepped, kind, 2212);
+DESK_PLACE(DeskStepped, number, 2216);
+DESK_PLACE(DeskStepped, owes, 2224);
 DESK_SIZE(DeskListed, 8);
 DESK_PLACE(DeskListed, refusal, 0);
 DESK_PLACE(DeskListed, count, 4);
@@ -212,8 +218,8 @@ DESK_PLACE(DeskLabel, length, 16);
 #undef DESK_SIZE
 #undef DESK_HOLDS
 
-/* Opens at the instant `start` with a list of `length` numbers, three a feed: period, work, offset. From then on each job
- * and each piece owes `charge` ticks beside its work. 12, 8, 3 (`start`), 18, 2, 9, 10. */
+/* Opens at the instant `start` with a list of `length` numbers, four a feed: period, work, offset, deadline length. From
+ * then on each job and each piece owes `charge` ticks beside its work. 12, 8, 3 (`start`), 18, 2, 9, 10. */
 DeskAnswer desk_open(const uint32_t *list, size_t length, uint64_t start, uint32_t charge);
 
 /* Asks for a job of `work` ticks, beside which it owes the charge, within `lead` ticks from now: taken exactly if it,
@@ -229,7 +235,8 @@ DeskAnswer desk_ask_mesh(Desk desk, const uint8_t *head, size_t lent, uint64_t s
 /* Tells why a job would be refused, or how near it comes to that; nothing is changed. 13, 1, 2, 3, 4, 5, 6, as asking. */
 DeskReason desk_why(Desk desk, uint32_t number, uint32_t work, uint32_t lead);
 
-/* One step of one tick: the ready work with the earliest deadline gets it. 13, 3 (the clock is at its last instant). */
+/* One step of one tick: the ready work with the earliest deadline gets it. What a piece has not got by its deadline it
+ * owes no more. 13, 3 (the clock is at its last instant). */
 DeskStepped desk_step(Desk desk);
 
 /* Ends a live job before its time. 13, 7. */

@@ -6,7 +6,7 @@
 // A program uses what it needs.
 #![allow(dead_code)]
 
-pub const VERSION: u32 = 2;
+pub const VERSION: u32 = 3;
 
 pub const LAST_INSTANT: u64 = 1 << 40;
 pub const MOST_JOBS: usize = 64;
@@ -17,7 +17,7 @@ pub const LONGEST_PERIOD: u64 = 40_320;
 pub const LONGEST_ROUND: u64 = 40_320;
 pub const HIGHEST_CHARGE: u64 = 16;
 
-pub const NUMBERS_A_FEED: usize = 3;
+pub const NUMBERS_A_FEED: usize = 4;
 pub const NUMBERS_A_JOB: usize = 3;
 pub const BYTES_OF_FRONT: usize = 84;
 pub const BYTES_A_JOB_LABEL: usize = 12;
@@ -55,6 +55,7 @@ pub struct Feed {
     pub period: u64,
     pub work: u64,
     pub offset: u64,
+    pub lead: u64,
     pub owes: u64,
 }
 

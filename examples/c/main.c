@@ -1,13 +1,19 @@
-/* A desk from C: opens with two feeds, asks and asks why, rests, steps and lists, asks with a mesh file, and opens under a
- * charge. */
+/* A desk from C: opens with two feeds, asks and asks why, rests, steps and lists, asks with a mesh file, opens under a
+ * charge, and opens with layers that are due before the next. */
 #include "desk.h"
 
 #include <stdio.h>
 
-/* Two printers: one wants 1 tick in 4, one 2 in 6. */
-static Desk opened(uint32_t charge) {
-    static const uint32_t feeds[] = {4, 1, 0, 6, 2, 0};
-    DeskAnswer answer = desk_open(feeds, sizeof feeds / sizeof *feeds, 0, charge);
+enum { TWO_FEEDS = 2 * DESK_NUMBERS_A_FEED };
+
+/* Two printers: one wants 1 tick in 4, one 2 in 6, each layer by the time that the next one comes. */
+static const uint32_t by_the_next[TWO_FEEDS] = {4, 1, 0, 4, 6, 2, 0, 6};
+
+/* The same two, where a layer is due 1 tick after it came, and 3. */
+static const uint32_t soon[TWO_FEEDS] = {4, 1, 0, 1, 6, 2, 0, 3};
+
+static Desk opened(const uint32_t *feeds, uint32_t charge) {
+    DeskAnswer answer = desk_open(feeds, TWO_FEEDS, 0, charge);
     printf("open at charge %u: %u\n", charge, answer.refusal);
     return answer.desk;
 }
@@ -70,7 +76,7 @@ static void labelled(Desk desk) {
 }
 
 int main(void) {
-    Desk desk = opened(0);
+    Desk desk = opened(by_the_next, 0);
     desk = asked(desk, 1, 3, 6);
     desk = asked(desk, 2, 1, 6);
     asked_why(desk, 2, 1, 6);
@@ -97,7 +103,8 @@ int main(void) {
     desk.clock = desk.clock + 1000000;
     desk.table.count = DESK_MOST_JOBS + 1;
     desk = stepped(desk);
-    asked_why(opened(1), 1, 3, 6); /* each piece and the job owe 1 more: what fitted does not */
-    opened(DESK_HIGHEST_CHARGE + 1);
+    asked_why(opened(by_the_next, 1), 1, 3, 6); /* each piece and the job owe 1 more: what fitted does not */
+    opened(by_the_next, DESK_HIGHEST_CHARGE + 1);
+    asked_why(opened(soon, 0), 1, 3, 6); /* the first one's second layer is due by then too: what fitted does not */
     return 0;
 }

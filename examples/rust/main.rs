@@ -5,9 +5,14 @@ mod desk;
 
 use desk::{Answer, Desk, Reason};
 
-/// Two printers: one wants 1 tick in 4, one 2 in 6.
-fn opened(charge: u32) -> Desk {
-    let answer = Desk::open(&[4, 1, 0, 6, 2, 0], 0, charge);
+/// Two printers: one wants 1 tick in 4, one 2 in 6, each layer by the time that the next one comes.
+const BY_THE_NEXT: [u32; 2 * desk::NUMBERS_A_FEED] = [4, 1, 0, 4, 6, 2, 0, 6];
+
+/// The same two, where a layer is due 1 tick after it came, and 3.
+const SOON: [u32; 2 * desk::NUMBERS_A_FEED] = [4, 1, 0, 1, 6, 2, 0, 3];
+
+fn opened(feeds: &[u32], charge: u32) -> Desk {
+    let answer = Desk::open(feeds, 0, charge);
     println!("open at charge {charge}: {}", answer.refusal);
     answer.desk
 }
@@ -67,7 +72,7 @@ fn labelled(desk: Desk) {
 }
 
 fn main() {
-    let mut desk = opened(0);
+    let mut desk = opened(&BY_THE_NEXT, 0);
     desk = asked(desk, 1, 3, 6);
     desk = asked(desk, 2, 1, 6);
     asked_why(desk, 2, 1, 6);
@@ -95,6 +100,7 @@ fn main() {
     desk.clock += 1_000_000;
     desk.table.count = desk::MOST_JOBS + 1;
     stepped(desk);
-    asked_why(opened(1), 1, 3, 6); // each piece and the job owe 1 more: what fitted does not
-    opened(desk::HIGHEST_CHARGE as u32 + 1);
+    asked_why(opened(&BY_THE_NEXT, 1), 1, 3, 6); // each piece and the job owe 1 more: what fitted does not
+    opened(&BY_THE_NEXT, desk::HIGHEST_CHARGE as u32 + 1);
+    asked_why(opened(&SOON, 0), 1, 3, 6); // the first one's second layer is due by then too: what fitted does not
 }

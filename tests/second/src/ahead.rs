@@ -15,10 +15,10 @@
 //! there is none. From s to D every tick goes to early work.
 //!
 //! - If s is not t, all that early work came at s or later. Jobs are all there
-//!   at t, so it is pieces of feeds only, whole inside s to D. A feed has at
-//!   most (D-s)/T of those, and the feeds passed line 10, so together they owe
-//!   at most D-s: and D-s ticks were given to them and to nothing else, so none
-//!   is late. This can't be.
+//!   at t, so it is pieces of feeds only, which come and are due inside s to D. No
+//!   feed has more of those than one that is released at s, and the feeds passed
+//!   line 10 for a stretch of D-s, so together they owe at most D-s: and D-s ticks
+//!   were given to them and to nothing else, so none is late. This can't be.
 //! - So s is t: from t to D every tick went to early work and it was not enough.
 //!   No other choice of ticks has more than all of them: F = D fails.
 //!
@@ -27,10 +27,11 @@
 //! Let M be an instant at or after every job's deadline and every feed's next
 //! release, and R the round. A first lateness at D > M + R can't be: by the
 //! above every tick from t to D goes to early work, and more is owed by D than
-//! D-t. Go back one round, to D-R, which is still at or after M. The work whose
-//! deadline lies after D-R and not after D is, for each feed, exactly R/T whole
-//! pieces, which together owe at most R by line 10. So more is owed by D-R than
-//! D-t-R, and something was late at D-R or before, against D being first.
+//! D-t. Go back one round, to D-R, which is still at or after M. A current piece is
+//! due at its feed's next release at the latest, so the work whose deadline lies
+//! after D-R and not after D is, for each feed, exactly R/T whole pieces, which
+//! together owe at most R by line 10 for a stretch of R. So more is owed by D-R
+//! than D-t-R, and something was late at D-R or before, against D being first.
 //! So M + R is enough; this program goes to M + 2R.
 //!
 //! And once nothing at all waits at an instant s, no job is left, and by the
@@ -39,11 +40,15 @@
 
 use crate::model::{round_of, Desk, Feed, Instant, Job, Length};
 
-/// A feed in rehearsal. `release` is the next one and the current deadline.
+/// A feed in rehearsal.
 struct Stream {
     period: Length,
     charged_work: Length,
+    lead: Length,
     owes: Length,
+    /// The current piece's deadline; any instant while none has come.
+    due: Instant,
+    /// The next one.
     release: Instant,
 }
 
@@ -77,12 +82,20 @@ pub fn far_enough(desk: &Desk) -> Instant {
     settled(desk) + 2 * round
 }
 
+/// Of work that was served until now and still owes this much: unfinished at its
+/// deadline is late too.
+fn in_time(now: Instant, owes: Length, deadline: Instant) -> bool {
+    now < deadline || (now == deadline && owes == 0)
+}
+
 impl Rehearsal {
     fn new(desk: &Desk) -> Rehearsal {
         let stream = |feed: &Feed| Stream {
             period: feed.period,
             charged_work: feed.charged_work(desk.charge),
+            lead: feed.lead,
             owes: feed.owes,
+            due: feed.due(desk.clock).unwrap_or(desk.clock),
             release: feed.next_release(desk.clock),
         };
         let mut jobs = desk.jobs.clone();
@@ -118,6 +131,7 @@ impl Rehearsal {
                     return false;
                 }
                 stream.owes = stream.charged_work;
+                stream.due = stream.release + stream.lead;
                 stream.release += stream.period;
             }
         }
@@ -126,7 +140,8 @@ impl Rehearsal {
 
     /// Serve the work that the step rule names, for as many ticks as it stays
     /// named: to its end, or to the next release of any feed. False if it is
-    /// late. Only the served work need be looked at: the rest is no earlier.
+    /// late. Only the served work need be looked at: the rest is no earlier, and
+    /// what is late and waits is named before all that is not.
     fn run_until_something_happens(&mut self) -> bool {
         let next = self
             .streams
@@ -136,16 +151,15 @@ impl Rehearsal {
             .unwrap_or(Instant::MAX);
         let first = (0..self.streams.len())
             .filter(|&place| self.streams[place].owes > 0)
-            .min_by_key(|&place| (self.streams[place].release, place));
+            .min_by_key(|&place| (self.streams[place].due, place));
         let job_deadline = self.jobs.last().map_or(Instant::MAX, |job| job.deadline);
         match first {
-            Some(place) if self.streams[place].release < job_deadline => {
+            Some(place) if self.streams[place].due < job_deadline => {
                 let stream = &mut self.streams[place];
                 let ticks = stream.owes.min(next - self.now);
                 stream.owes -= ticks;
                 self.now += ticks;
-                // Lateness of a piece shows at the next release of its feed.
-                true
+                in_time(self.now, stream.owes, stream.due)
             }
             _ if job_deadline < Instant::MAX => self.run_job(next),
             _ => {
@@ -163,13 +177,11 @@ impl Rehearsal {
         let ticks = job.owed.min(next - self.now);
         job.owed -= ticks;
         self.now += ticks;
-        let in_time = self.now <= job.deadline;
-        let finished = job.owed == 0;
-        if finished {
+        let in_time = in_time(self.now, job.owed, job.deadline);
+        if job.owed == 0 {
             self.jobs.pop();
         }
-        // Unfinished at its deadline is late too.
-        in_time && (finished || self.now < self.jobs.last().expect("unfinished").deadline)
+        in_time
     }
 
     fn idle(&mut self, next: Instant) {

@@ -401,27 +401,27 @@ impl Walk<'_> {
         Ok(())
     }
 
-    /// One feed of the longest round that leaves little or nothing over, and the
-    /// longest lead. If a piece is due shortly before that ends, it is the next
-    /// one, a round later, that decides.
+    /// One feed of the longest round that leaves little or nothing over until it is
+    /// due, and the longest lead. If a piece is due shortly before that ends, it is
+    /// the next one, a round later, that decides.
     fn reasons_far_ahead(&mut self, clock: u64) -> Result<(), String> {
         let random = &mut self.random;
         let clock = clock.min(LAST_INSTANT - 65_536);
         let clock = random.pick(&[clock, LAST_INSTANT - 65_536]);
         let due = clock + 65_536 - random.pick(&[0, 1, 1, 1, 2, 50, 5_000, 40_000]);
-        let (period, offset) = (40_320, due % 40_320);
-        let charge = random.pick(&[0, 0, 1, 3, 16]);
-        let work = period - charge - random.pick(&[0, 0, 0, 1, 100]);
-        let owes = match random.below(4) {
-            0 if clock >= offset => random.below(work + charge + 1),
-            _ => 0,
-        };
-        let feed = model::Feed {
+        let (period, charge) = (40_320, random.pick(&[0, 0, 1, 3, 16]));
+        let lead = random.pick(&[period, period, period, 40_319, 30_000, 200]);
+        let work = lead - charge - random.pick(&[0, 0, 0, 1, 100]);
+        let mut feed = model::Feed {
             period,
             work,
-            offset,
-            owes,
+            offset: (due + period - lead) % period,
+            lead,
+            owes: 0,
         };
+        if may_owe(&feed, clock) && random.chance(25) {
+            feed.owes = random.below(work + charge + 1);
+        }
         let state = model::Desk {
             clock,
             charge,
@@ -510,18 +510,24 @@ fn run_on(random: &mut Random, desk: Desk) -> Desk {
 }
 
 fn spoil_list(random: &mut Random, list: &mut Vec<u32>) {
-    match random.below(6) {
+    match random.below(9) {
         0 => list.extend((0..random.between(1, 8)).map(|_| 1)),
         1 => {
-            let any = random.index(60);
-            list.resize(random.pick(&[any, 48, 49, 51, 51, 52, 54]), 1);
+            let any = random.index(80);
+            list.resize(random.pick(&[any, 51, 64, 65, 67, 68, 68, 72]), 1);
         }
         2 => list.truncate(random.index(list.len() + 1)),
         _ if list.is_empty() => list.push(4),
         // More work than the period has ticks.
-        3 if list.len() % 3 == 0 => {
-            let feed = 3 * random.index(list.len() / 3);
+        3 if list.len() % 4 == 0 => {
+            let feed = 4 * random.index(list.len() / 4);
             list[feed + 1] = list[feed] + 1;
+        }
+        // A deadline length at or over its limits.
+        4..=6 if list.len() % 4 == 0 => {
+            let feed = 4 * random.index(list.len() / 4);
+            let period = list[feed];
+            list[feed + 3] = random.pick(&[0, 1, period, period + 1, period + 1, u32::MAX]);
         }
         _ => {
             let place = random.index(list.len());
@@ -563,48 +569,95 @@ fn job_labels(random: &mut Random, state: &model::Desk, length: usize) -> Vec<u8
 
 // ---------------------------------------------------------------- states made by hand
 
+/// Whether a piece of the feed may owe at this instant: it can have come, and its
+/// deadline is not over.
+fn may_owe(feed: &model::Feed, clock: u64) -> bool {
+    feed.due(clock).map_or(false, |due| due > clock)
+}
+
 /// Keeps the state in order, but promises more than there is time for.
 fn overbook(random: &mut Random, desk: &mut Desk) {
     let mut state = match read(desk).filter(|state| state.in_order()) {
         Some(state) => state,
         None => return,
     };
+    if random.chance(40) {
+        shortly_before_a_deadline(random, &mut state);
+    }
     let clock = state.clock;
-    let room = (LAST_INSTANT - clock).min(65_536);
-    let most = JOB_LENGTH_MOST + state.charge;
     for feed in &mut state.feeds {
-        if clock >= feed.offset && random.chance(30) {
+        if may_owe(feed, clock) && random.chance(30) {
             feed.owes = random.below(feed.charged_work(state.charge) + 1);
         }
     }
-    if room > 0 {
-        let near = random.pick(&[1, 5, 30, 300, 65_536]).min(room);
-        for job in &mut state.jobs {
-            if random.chance(40) {
-                job.deadline = clock + random.between(1, near);
-            }
-            if random.chance(20) {
-                job.owed = random.pick(&[1, 2, 10, 65_536, most]);
-            }
-        }
-        for _ in 0..random.pick(&[0, 1, 1, 3, 10, 100]) {
-            let job = model::Job {
-                number: random.between(1, 300) as u32,
-                owed: random.pick(&[1, 1, 2, 3, 10, 1_000, 65_536, most]),
-                deadline: clock + random.between(1, near),
-            };
-            let known = state.jobs.iter().any(|other| other.number == job.number);
-            if !known && state.jobs.len() < 64 {
-                state.jobs.push(job);
-            }
-        }
+    if clock < LAST_INSTANT {
+        overbook_jobs(random, &mut state);
     }
     debug_assert!(state.in_order());
     *desk = write(&state);
 }
 
+fn overbook_jobs(random: &mut Random, state: &mut model::Desk) {
+    let clock = state.clock;
+    let room = (LAST_INSTANT - clock).min(65_536);
+    let most = JOB_LENGTH_MOST + state.charge;
+    let near = random.pick(&[1, 5, 30, 300, 65_536]).min(room);
+    for job in &mut state.jobs {
+        if random.chance(40) {
+            job.deadline = clock + random.between(1, near);
+        }
+        if random.chance(20) {
+            job.owed = random.pick(&[1, 2, 10, 65_536, most]);
+        }
+    }
+    for _ in 0..random.pick(&[0, 1, 1, 3, 10, 100]) {
+        let job = model::Job {
+            number: random.between(1, 300) as u32,
+            owed: random.pick(&[1, 1, 2, 3, 10, 1_000, 65_536, most]),
+            deadline: clock + random.between(1, near),
+        };
+        let known = state.jobs.iter().any(|other| other.number == job.number);
+        if !known && state.jobs.len() < 64 {
+            state.jobs.push(job);
+        }
+    }
+}
+
+/// At an instant just before a piece is due, which owes as much as can be: with jobs
+/// due no later it is late, mostly before the next one comes.
+fn shortly_before_a_deadline(random: &mut Random, state: &mut model::Desk) {
+    if state.feeds.is_empty() {
+        return;
+    }
+    let place = random.index(state.feeds.len());
+    let left = random.between(1, state.feeds[place].lead.min(4));
+    let clock = state.feeds[place].next_due(state.clock) - left;
+    if (state.clock..=LAST_INSTANT).contains(&clock) {
+        move_to(random, state, clock);
+        state.feeds[place].owes = state.feeds[place].charged_work(state.charge);
+    }
+}
+
 /// The same feeds at another instant, their current pieces having run in part, and
 /// the jobs that find their place there.
+fn move_to(random: &mut Random, state: &mut model::Desk, clock: u64) {
+    for feed in &mut state.feeds {
+        let whole = feed.charged_work(state.charge);
+        feed.owes = match random.below(4) {
+            _ if !may_owe(feed, clock) => 0,
+            0 => 0,
+            1 => whole,
+            _ => random.below(whole + 1),
+        };
+    }
+    for job in &mut state.jobs {
+        job.deadline = job.deadline - state.clock + clock;
+    }
+    state.jobs.retain(|job| job.deadline <= LAST_INSTANT);
+    state.clock = clock;
+}
+
+/// So that what decides lies far on, or past the last instant.
 fn move_on(random: &mut Random, desk: &mut Desk) {
     let mut state = match read(desk).filter(|state| state.in_order()) {
         Some(state) => state,
@@ -617,30 +670,17 @@ fn move_on(random: &mut Random, desk: &mut Desk) {
         2 => LAST_INSTANT - random.below(2 * longest.unwrap_or(9)),
         _ => LAST_INSTANT - random.between(65_000, 65_600),
     };
-    for feed in &mut state.feeds {
-        let whole = feed.charged_work(state.charge);
-        feed.owes = match random.below(4) {
-            _ if clock < feed.offset => 0,
-            0 => 0,
-            1 => whole,
-            _ => random.below(whole + 1),
-        };
-    }
-    for job in &mut state.jobs {
-        job.deadline = job.deadline - state.clock + clock;
-    }
-    state.jobs.retain(|job| job.deadline <= LAST_INSTANT);
+    move_to(random, &mut state, clock);
     if random.chance(50) {
         state.jobs.clear();
     }
-    state.clock = clock;
     debug_assert!(state.in_order());
     *desk = write(&state);
 }
 
 /// One thing wrong; sometimes one field set to a value just inside its limits.
 fn damage(random: &mut Random, desk: &mut Desk) {
-    match random.below(16) {
+    match random.below(20) {
         0 => desk.feeds.count = random.pick(&[17, 18, 256, usize::MAX, desk.feeds.count + 1]),
         1 => desk.table.count = random.pick(&[65, 66, 256, usize::MAX, desk.table.count + 1]),
         2 => number_twice(desk),
@@ -656,22 +696,69 @@ fn damage(random: &mut Random, desk: &mut Desk) {
         7 => {
             let feed =
                 &mut desk.feeds.feeds[random.between(desk.feeds.count.min(15) as u64, 15) as usize];
-            set_feed(feed, random.below(4), 1);
+            set_feed(feed, random.below(5), 1);
         }
         8..=9 => another_charge(random, desk),
         10..=11 => owing_all_or_more(random, desk),
+        12..=13 => another_lead(random, desk),
+        14..=15 => at_a_deadline(random, desk),
         _ => one_field(random, desk),
     }
+}
+
+/// A deadline length outside its limits, or about as short as line 10 allows; now and
+/// then under one tick more of charge, so that this alone is too much. What is owed
+/// goes, so that nothing else is wrong.
+fn another_lead(random: &mut Random, desk: &mut Desk) {
+    let state = match read(desk).filter(|state| state.in_order() && !state.feeds.is_empty()) {
+        Some(state) => state,
+        None => return one_field(random, desk),
+    };
+    let place = random.index(state.feeds.len());
+    let period = state.feeds[place].period;
+    let shortest = invent::shortest_lead(&state.feeds, place, state.charge).unwrap_or(period);
+    for feed in &mut desk.feeds.feeds {
+        feed.owes = 0;
+    }
+    desk.feeds.feeds[place].lead = match random.below(10) {
+        0 => 0,
+        1 => period + 1,
+        2 => random.pick(&[40_320, 40_321, 1 << 32, 1 << 63, u64::MAX]),
+        3 => random.between(1, period),
+        4..=6 => shortest - 1,
+        _ => shortest,
+    };
+    if random.chance(30) && desk.charge < CHARGE_MOST {
+        desk.charge += 1;
+    }
+}
+
+/// At a piece's deadline, or a tick before or after it, the piece owing all the same:
+/// out of order from the deadline on, unless that is when the next one comes.
+fn at_a_deadline(random: &mut Random, desk: &mut Desk) {
+    let mut state = match read(desk).filter(|state| state.in_order() && !state.feeds.is_empty()) {
+        Some(state) => state,
+        None => return one_field(random, desk),
+    };
+    let place = random.index(state.feeds.len());
+    let clock = state.feeds[place].next_due(state.clock) + random.pick(&[0, 0, 1, 2]) - 1;
+    if clock > LAST_INSTANT {
+        return one_field(random, desk);
+    }
+    move_to(random, &mut state, clock);
+    let whole = state.feeds[place].charged_work(state.charge);
+    state.feeds[place].owes = random.pick(&[1, whole]);
+    *desk = write(&state);
 }
 
 /// The charge alone is another one: with it the feeds may no longer pass, and what
 /// jobs and pieces owe may be too much.
 fn another_charge(random: &mut Random, desk: &mut Desk) {
-    desk.charge = match random.below(8) {
+    desk.charge = match random.below(9) {
         0 => CHARGE_MOST + 1,
-        1 => random.pick(&[18, 32, 1 << 32, 1 << 63, u64::MAX, u64::MAX - 65_536]),
-        2 => desk.charge.saturating_sub(1),
-        3..=4 => desk.charge + 1,
+        1..=2 => random.pick(&[18, 32, 1 << 32, 1 << 63, u64::MAX, u64::MAX - 65_536]),
+        3 => desk.charge.saturating_sub(1),
+        4..=5 => desk.charge + 1,
         _ => random.between(0, CHARGE_MOST),
     };
 }
@@ -710,9 +797,7 @@ fn piece_before_its_offset(random: &mut Random, desk: &mut Desk) {
     desk.table = Default::default();
     desk.clock = random.below(desk.feeds.feeds[place].offset);
     for feed in &mut desk.feeds.feeds[..count] {
-        if desk.clock < feed.offset {
-            feed.owes = 0;
-        }
+        feed.owes = 0;
     }
     // Mostly the one wrong thing, else a state that is in order after all.
     desk.feeds.feeds[place].owes = random.pick(&[0, 1, 1, 1]);
@@ -731,6 +816,7 @@ fn feeds_that_would_not_pass(random: &mut Random, desk: &mut Desk) {
             period: 40_321,
             work: 1,
             offset: 0,
+            lead: 1,
             owes: 0,
         };
         return;
@@ -784,7 +870,7 @@ fn one_field(random: &mut Random, desk: &mut Desk) {
         4..=5 => {
             let among = desk.feeds.count.clamp(1, 16);
             let feed = &mut desk.feeds.feeds[random.index(among)];
-            set_feed(feed, random.below(4), value);
+            set_feed(feed, random.below(5), value);
         }
         _ => {
             let among = desk.table.count.clamp(1, 64);
@@ -799,6 +885,7 @@ fn set_feed(feed: &mut Feed, field: u64, value: u64) {
         0 => feed.period = value,
         1 => feed.work = value,
         2 => feed.offset = value,
+        3 => feed.lead = value,
         _ => feed.owes = value,
     }
 }

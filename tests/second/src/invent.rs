@@ -1,14 +1,14 @@
 //! Random scripts that try to be awkward: loads near 100 %, equal deadlines,
 //! works just at what fits, reused numbers, ends and rests in between, openings
-//! in mid-period, near the last instant and under any charge, rounds of exactly
-//! 40,320, and bad lines of every kind. A script keeps the model's state beside
+//! in mid-period, near the last instant and under any charge, layers due as soon
+//! as line 10 allows, rounds of exactly 40,320, and bad lines of every kind. A script keeps the model's state beside
 //! it, so that most lines mean something where they stand.
 
 use crate::ahead;
 use crate::mesh;
 use crate::model::{
-    open, round_of, Desk, Feed, Length, Refusal, CHARGE_MOST, JOB_LENGTH_MOST, LAST_INSTANT,
-    ROUND_MOST,
+    feeds_refusal, open, round_of, Desk, Feed, Length, Refusal, CHARGE_MOST, JOB_LENGTH_MOST,
+    LAST_INSTANT, ROUND_MOST,
 };
 use crate::random::Random;
 use crate::reason::Instants;
@@ -103,6 +103,7 @@ fn with_works(random: &mut Random, periods: Vec<u64>, charge: Length, load: Load
         period,
         work: 1,
         offset: 0,
+        lead: period,
         owes: 0,
     };
     let mut feeds: Vec<Feed> = periods.into_iter().map(feed).collect();
@@ -146,6 +147,82 @@ fn fill(feeds: &mut [Feed], round: u64, mut room: u64, over: bool) {
     }
 }
 
+/// The shortest deadline length with which the feed at this place lets all of them
+/// pass, the others staying as they are; nothing if not even its period does.
+pub fn shortest_lead(feeds: &[Feed], place: usize, charge: Length) -> Option<Length> {
+    let period = feeds[place].period;
+    let mut feeds = feeds.to_vec();
+    let mut passes = |lead| {
+        feeds[place].lead = lead;
+        feeds_refusal(&feeds, charge).is_none()
+    };
+    if !passes(period) {
+        return None;
+    }
+    // A piece that has more time wants no more in any stretch.
+    let (mut fails, mut shortest) = (0, period);
+    while fails + 1 < shortest {
+        let middle = (fails + shortest) / 2;
+        if passes(middle) {
+            shortest = middle;
+        } else {
+            fails = middle;
+        }
+    }
+    Some(shortest)
+}
+
+/// Deadline lengths: of the period, as short as line 10 allows, and in between.
+fn with_leads(random: &mut Random, feeds: &mut [Feed], charge: Length) {
+    let mut order: Vec<usize> = (0..feeds.len()).collect();
+    shuffle(random, &mut order);
+    let most = random.pick(&[0, 1, 2, 4, 16]);
+    for &place in order.iter().take(most) {
+        let period = feeds[place].period;
+        if let Some(shortest) = shortest_lead(feeds, place, charge) {
+            feeds[place].lead = match random.below(4) {
+                0 => random.between(shortest, period),
+                1 => (shortest + 1).min(period),
+                _ => shortest,
+            };
+        }
+    }
+}
+
+/// Deadline lengths outside their limits, or so short that line 10 may not hold.
+fn with_leads_too_short_or_long(random: &mut Random, feeds: &mut [Feed]) {
+    if feeds.is_empty() {
+        return;
+    }
+    let place = random.index(feeds.len());
+    let Feed { period, lead, .. } = feeds[place];
+    feeds[place].lead = match random.below(8) {
+        0 => 0,
+        1 => period + 1,
+        2 => random.pick(&[40_320, 40_321, 65_536, u32::MAX.into()]),
+        3 => 1,
+        4 => random.between(1, period),
+        _ => lead - 1,
+    };
+}
+
+/// Feeds of one period that their offsets keep apart, each due before the next one's
+/// piece comes: line 10 takes no notice of that.
+fn kept_apart(random: &mut Random, charge: Length) -> Vec<Feed> {
+    let many = random.between(2, 5);
+    let work = random.between(1, 9);
+    let lead = work + charge + random.below(3);
+    let period = many * lead + random.below(5);
+    let feed = |place| Feed {
+        period,
+        work,
+        offset: place * lead,
+        lead,
+        owes: 0,
+    };
+    (0..many).map(feed).collect()
+}
+
 /// Feeds that mostly pass the opening under this charge, with any offsets.
 fn feeds(random: &mut Random, start: u64, charge: u32) -> Vec<Feed> {
     let load = match random.below(100) {
@@ -153,8 +230,11 @@ fn feeds(random: &mut Random, start: u64, charge: u32) -> Vec<Feed> {
         30..=94 => Load::Full,
         _ => Load::Over,
     };
-    let periods = periods(random);
     let charge = Length::from(charge).min(CHARGE_MOST);
+    if random.chance(2) {
+        return kept_apart(random, charge);
+    }
+    let periods = periods(random);
     let mut feeds = with_works(random, periods, charge, load);
     let kind = random.below(4);
     for feed in &mut feeds {
@@ -167,6 +247,10 @@ fn feeds(random: &mut Random, start: u64, charge: u32) -> Vec<Feed> {
                 (start + near) % feed.period
             }
         };
+    }
+    with_leads(random, &mut feeds, charge);
+    if random.chance(6) {
+        with_leads_too_short_or_long(random, &mut feeds);
     }
     feeds
 }
@@ -204,9 +288,10 @@ fn start(random: &mut Random) -> u64 {
 }
 
 fn as_list(feeds: &[Feed]) -> Vec<u32> {
+    let numbers = |feed: &Feed| [feed.period, feed.work, feed.offset, feed.lead];
     feeds
         .iter()
-        .flat_map(|f| [f.period as u32, f.work as u32, f.offset as u32])
+        .flat_map(|feed| numbers(feed).map(|number| number as u32))
         .collect()
 }
 
@@ -242,8 +327,8 @@ impl Opening {
     }
 
     fn lines(&self) -> Vec<String> {
-        let feed_line = |f: &[u32]| format!("feed {} {} {}", f[0], f[1], f[2]);
-        let mut lines: Vec<String> = self.list.chunks(3).map(feed_line).collect();
+        let feed_line = |f: &[u32]| format!("feed {} {} {} {}", f[0], f[1], f[2], f[3]);
+        let mut lines: Vec<String> = self.list.chunks(4).map(feed_line).collect();
         lines.push(format!("go {} {}", self.start, self.charge));
         lines
     }
@@ -261,7 +346,7 @@ pub fn lead(random: &mut Random, desk: &Desk) -> u64 {
         15..=44 if !desk.feeds.is_empty() => {
             let feed = desk.feeds[random.index(desk.feeds.len())];
             let pieces = random.pick(&[0, 0, 0, 1, 1, 2, 3, 7]);
-            let near = feed.next_release(desk.clock) - desk.clock + pieces * feed.period;
+            let near = feed.next_due(desk.clock) - desk.clock + pieces * feed.period;
             near + random.pick(&[0, 0, 0, 1])
         }
         45..=59 => random.between(1, 20),
@@ -586,10 +671,11 @@ fn opened(random: &mut Random, ticks: u64) -> Script {
 fn roomy(random: &mut Random) -> Opening {
     let start = random.pick(&[0, 5, 1_000, LAST_INSTANT - 65_536, LAST_INSTANT - 70_000]);
     let (a, b, c) = (random.below(12), random.below(10), random.below(4));
+    let (soon, late) = (random.pick(&[7, 8, 10]), random.pick(&[2, 3, 4]));
     let (list, most) = match random.below(3) {
         0 => (vec![], CHARGE_MOST),
-        1 => (vec![12, 5, a as u32], 3),
-        _ => (vec![10, 2, b as u32, 4, 1, c as u32], 1),
+        1 => (vec![12, 5, a as u32, random.pick(&[8, 10, 12])], 3),
+        _ => (vec![10, 2, b as u32, soon, 4, 1, c as u32, late], 1),
     };
     let charge = random.between(0, most) as u32;
     Opening {
@@ -641,34 +727,42 @@ fn strange_go(random: &mut Random) -> String {
     format!("go {start} {charge}")
 }
 
+/// A feed at and over each limit.
+fn strange_feed(random: &mut Random) -> String {
+    let odd: [u64; 10] = [0, 1, 2, 40_319, 40_320, 40_321, 65_536, 4_294_967_295, 7, 3];
+    let period = match random.below(2) {
+        0 => random.pick(&odd),
+        _ => random.between(1, 40),
+    };
+    let work = match random.below(5) {
+        0 => random.pick(&odd),
+        _ => 1,
+    };
+    let offset = match random.below(4) {
+        0 => period,
+        1 => period.saturating_sub(1),
+        2 => random.pick(&odd),
+        _ => 0,
+    };
+    let lead = match random.below(6) {
+        0 => 0,
+        1 => period + 1,
+        2 => random.pick(&odd),
+        3 => 1,
+        _ => period,
+    };
+    format!("feed {period} {work} {offset} {lead}")
+}
+
 /// Openings at and over each limit.
 fn strange_opening(random: &mut Random) -> Vec<u8> {
-    let odd: [u64; 10] = [0, 1, 2, 40_319, 40_320, 40_321, 65_536, 4_294_967_295, 7, 3];
     let many = random.pick(&[0, 1, 1, 2, 2, 3, 15, 16, 17]);
-    let mut lines = Vec::new();
-    for _ in 0..many {
-        let period = if random.chance(50) {
-            random.pick(&odd)
-        } else {
-            random.between(1, 40)
-        };
-        let work = if random.chance(20) {
-            random.pick(&odd)
-        } else {
-            1
-        };
-        let offset = match random.below(4) {
-            0 => period,
-            1 => period.saturating_sub(1),
-            2 => random.pick(&odd),
-            _ => 0,
-        };
-        lines.push(format!("feed {period} {work} {offset}"));
-    }
+    let mut lines: Vec<String> = (0..many).map(|_| strange_feed(random)).collect();
     if random.chance(50) {
         // All alike and within limits, so that only the count or the load matters.
         let period = random.between(12, 20);
-        lines = vec![format!("feed {period} 1 {}", random.below(period)); many];
+        let lead = random.pick(&[period, period, 15, 16, 17]).min(period);
+        lines = vec![format!("feed {period} 1 {} {lead}", random.below(period)); many];
     }
     lines.push(strange_go(random));
     lines.push("ask 1 1 1".into());
@@ -676,7 +770,7 @@ fn strange_opening(random: &mut Random) -> Vec<u8> {
     text(&lines)
 }
 
-const BAD_LINES: [&str; 83] = [
+const BAD_LINES: [&str; 90] = [
     "",
     " ",
     "go",
@@ -713,17 +807,24 @@ const BAD_LINES: [&str; 83] = [
     "feed",
     "feed 4 1",
     "feed 4 1 0",
-    "feed 4 1 0 0",
-    "feed 4 1 00",
-    "feed 04 1 0",
-    "feed 4  1 0",
     "feed 4 1 0 ",
-    "feed 4294967296 1 0",
-    "feed 4 4294967296 0",
-    "feed 4 1 4294967296",
-    "feed 12345678901234 1 0",
-    "feed a 1 0",
-    "feeds 4 1 0",
+    "feed 4 1 0 4",
+    "feed 4 1 0 4 4",
+    "feed 4 1 0 4 ",
+    "feed 4 1 00 4",
+    "feed 4 1 0 04",
+    "feed 4 1 0 00",
+    "feed 4 1 0 -1",
+    "feed 04 1 0 4",
+    "feed 4  1 0 4",
+    "feed 4 1 0  4",
+    "feed 4294967296 1 0 4",
+    "feed 4 4294967296 0 4",
+    "feed 4 1 4294967296 4",
+    "feed 4 1 0 4294967296",
+    "feed 12345678901234 1 0 4",
+    "feed a 1 0 4",
+    "feeds 4 1 0 4",
     "ask",
     "ask 1 1",
     "ask 1 1 1 1",
@@ -786,35 +887,45 @@ fn with_bad_line(random: &mut Random) -> Vec<u8> {
         .iter()
         .position(|line| line.starts_with("go"))
         .expect("it opens");
+    if random.chance(8) {
+        // The last newline missing.
+        let mut text = text(&lines);
+        text.pop();
+        return text;
+    }
+    spoil_a_line(random, &mut lines, opening);
+    text(&lines)
+}
+
+/// One line bad in itself or where it stands, now and then only at a limit.
+fn spoil_a_line(random: &mut Random, lines: &mut Vec<String>, opening: usize) {
     match random.below(11) {
-        0..=5 => {
-            let place = random.index(lines.len() + 1);
-            lines.insert(place, random.pick(&BAD_LINES).to_string());
-        }
         // A feed too many, whether or not the others pass.
-        6 => {
-            let feeds = vec![format!("feed {} 1 0", random.pick(&[1, 16, 18, 20])); 18];
+        0 => {
+            let period = random.pick(&[1, 16, 18, 20]);
+            let feeds = vec![format!("feed {period} 1 0 {period}"); 18];
             lines.splice(0..opening, feeds);
         }
         // A second go, and lines before the first.
-        7 => {
+        1 => {
             let (from, to) = (random.index(lines.len()), random.index(lines.len()));
             let line = lines.remove(from);
             lines.insert(to, line);
         }
-        8 => {
+        2 => {
             let place = random.between(opening as u64 + 1, lines.len() as u64) as usize;
             lines.insert(place, random.pick(&EDGE_LINES).to_string());
         }
-        9 => lines[opening] = bad_go(random, &lines[opening]),
-        // The last newline missing.
+        3 => lines[opening] = bad_go(random, &lines[opening]),
+        4 if opening > 0 => {
+            let place = random.index(opening);
+            lines[place] = bad_feed(random, &lines[place]);
+        }
         _ => {
-            let mut text = text(&lines);
-            text.pop();
-            return text;
+            let place = random.index(lines.len() + 1);
+            lines.insert(place, random.pick(&BAD_LINES).to_string());
         }
     }
-    text(&lines)
 }
 
 /// The same `go` without its charge, with a field too many, or with a charge that
@@ -835,6 +946,21 @@ fn bad_go(random: &mut Random, go: &str) -> String {
         0 => uncharged.to_string(),
         1 => format!("{go} {}", random.pick(&["0", "1", "16", ""])),
         _ => format!("{uncharged} {charge}"),
+    }
+}
+
+/// The same feed without its deadline length, with a field too many, or with one that
+/// is no number.
+fn bad_feed(random: &mut Random, feed: &str) -> String {
+    let (dueless, lead) = feed.rsplit_once(' ').expect("it has a deadline length");
+    match random.below(4) {
+        0 => dueless.to_string(),
+        1 => format!("{feed} {}", random.pick(&["0", "1", lead, ""])),
+        2 => format!("{dueless} 0{lead}"),
+        _ => format!(
+            "{dueless} {}",
+            random.pick(&["", "4294967296", "00", "-1", "x"])
+        ),
     }
 }
 
@@ -934,7 +1060,7 @@ fn at_the_end_of_time(random: &mut Random) -> Vec<u8> {
 /// The longest answer: the most `run 4096` lines that 65,536 bytes hold.
 pub fn flood() -> Vec<u8> {
     let mut text =
-        b"feed 4 1 0\nfeed 6 2 0\nfeed 40320 7 99\ngo 1099482627776 0\nask 7 9000 65536\n".to_vec();
+        b"feed 4 1 0 2\nfeed 6 2 0 6\nfeed 40320 7 99 40000\ngo 1099482627776 0\nask 7 9000 65536\n".to_vec();
     // A line to pad with has 6 bytes or more.
     while text.len() + 9 + 6 <= INPUT_MOST {
         text.extend(b"run 4096\n");
@@ -951,24 +1077,26 @@ pub fn fixed() -> Vec<Vec<u8>> {
     let mut scripts: Vec<String> = vec!["".into(), "\n".into(), "go 0 0".into()];
     for line in BAD_LINES {
         scripts.push(format!("{line}\n"));
-        scripts.push(format!("feed 4 1 0\n{line}\ngo 0 0\nrun 1\n"));
-        scripts.push(format!("feed 4 1 0\ngo 0 0\n{line}\nrun 1\n"));
-        scripts.push(format!("feed 4 1 0\ngo 0 0\n{line}"));
+        scripts.push(format!("feed 4 1 0 4\n{line}\ngo 0 0\nrun 1\n"));
+        scripts.push(format!("feed 4 1 0 4\ngo 0 0\n{line}\nrun 1\n"));
+        scripts.push(format!("feed 4 1 0 4\ngo 0 0\n{line}"));
     }
     for line in EDGE_LINES {
-        scripts.push(format!("feed 4 1 0\ngo 0 0\n{line}\nrun 1\n"));
-        scripts.push(format!("feed 4 1 0\ngo 0 3\n{line}\nrun 1\n"));
+        scripts.push(format!("feed 4 1 0 4\ngo 0 0\n{line}\nrun 1\n"));
+        scripts.push(format!("feed 4 1 0 4\ngo 0 3\n{line}\nrun 1\n"));
     }
     for start in STARTS {
         scripts.push(format!(
-            "feed 4 1 0\ngo {start} 0\nask 1 1 1\nrun 2\nrun 1\nend 1\n"
+            "feed 4 1 0 4\ngo {start} 0\nask 1 1 1\nrun 2\nrun 1\nend 1\n"
         ));
     }
     scripts.extend(charged());
+    scripts.extend(due_early());
     for count in 15..=18 {
         let feeds = |feed: &str| feed.repeat(count);
-        scripts.push(feeds("feed 20 1 0\n") + "go 0 0\nrun 40\n");
-        scripts.push(feeds("feed 0 1 0\n") + "go 1099511627777 17\nrun 40\n");
+        scripts.push(feeds("feed 20 1 0 20\n") + "go 0 0\nrun 40\n");
+        scripts.push(feeds("feed 20 1 0 16\n") + "go 0 0\nrun 40\n");
+        scripts.push(feeds("feed 0 1 0 0\n") + "go 1099511627777 17\nrun 40\n");
     }
     scripts.extend(BENCH.iter().map(|script| script.to_string()));
     let texts = scripts.into_iter().map(String::into_bytes);
@@ -990,7 +1118,7 @@ fn charged() -> Vec<String> {
     for charge in 0..=CHARGE_MOST {
         let just = 17 - charge;
         scripts.push(format!(
-            "feed 20 3 2\ngo 0 {charge}\nask 1 1 40\nrun 25\nend 1\nrest 1\n\
+            "feed 20 3 2 20\ngo 0 {charge}\nask 1 1 40\nrun 25\nend 1\nrest 1\n\
              ask 2 {} 17\nask 2 {just} 17\nrun 40\n",
             just + 1
         ));
@@ -1002,16 +1130,60 @@ fn charged() -> Vec<String> {
     scripts
 }
 
+/// Feeds at each limit of their deadline lengths, opened in mid-period, at a release
+/// and below their offsets; their layers rested before and from their deadlines on,
+/// and jobs around them.
+fn due_early() -> Vec<String> {
+    let mut scripts = Vec::new();
+    for feeds in DUE_EARLY {
+        for start in [0, 1, 2, 3, 5, 38, 39, 40, LAST_INSTANT - 6] {
+            for charge in [0, 1] {
+                let calls = "rest 1\nask 1 1 1\nrun 1\nrest 1\nask 2 2 4\nrun 2\nrest 1\nrest 2\n\
+                             ask 3 1 2\nask 4 3 9\nrun 90\n";
+                scripts.push(format!("{feeds}go {start} {charge}\n{calls}"));
+            }
+        }
+    }
+    scripts
+}
+
+/// Alone, with another, and refused by 2 or 10: by a short stretch, by the charge in
+/// one, or by feeds whose offsets would help if offsets could.
+const DUE_EARLY: [&str; 22] = [
+    "feed 4 1 0 0\n",
+    "feed 4 1 0 1\n",
+    "feed 4 1 0 2\n",
+    "feed 4 1 0 3\n",
+    "feed 4 1 0 4\n",
+    "feed 4 1 0 5\n",
+    "feed 4 1 0 4294967295\n",
+    "feed 4 1 1 1\n",
+    "feed 4 2 1 3\n",
+    "feed 4 1 3 1\n",
+    "feed 40 1 39 1\n",
+    "feed 40 5 39 7\n",
+    "feed 40 9 20 10\n",
+    "feed 1 1 0 1\n",
+    "feed 40320 1 40319 1\n",
+    "feed 4 2 0 2\nfeed 4 2 2 2\n",
+    "feed 4 2 0 2\nfeed 4 2 2 4\n",
+    "feed 4 2 0 2\nfeed 4 1 2 3\n",
+    "feed 6 2 0 3\nfeed 4 1 1 2\n",
+    "feed 6 1 5 4\nfeed 4 1 3 2\n",
+    "feed 6 3 0 3\nfeed 12 3 0 6\n",
+    "feed 2 1 0 1\nfeed 40319 1 0 0\n",
+];
+
 /// None; some that get 2, 9 or 10 under any charge; and some that are full under
 /// the charge 0, 1 or 16.
 const CHARGED_FEEDS: [&str; 7] = [
     "",
-    "feed 0 1 0\n",
-    "feed 40319 1 0\nfeed 2 1 0\n",
-    "feed 4 4 0\nfeed 4 1 0\n",
-    "feed 2 1 0\nfeed 4 2 0\n",
-    "feed 4 3 0\n",
-    "feed 40320 40304 0\n",
+    "feed 0 1 0 1\n",
+    "feed 40319 1 0 40319\nfeed 2 1 0 2\n",
+    "feed 4 4 0 4\nfeed 4 1 0 4\n",
+    "feed 2 1 0 2\nfeed 4 2 0 4\n",
+    "feed 4 3 0 4\n",
+    "feed 40320 40304 0 40320\n",
 ];
 
 /// Charges on both sides of each limit, as words; the last ones are bad.
@@ -1042,18 +1214,18 @@ const STARTS: [&str; 8] = [
 
 /// The document's example and its bench examples, in the program's words.
 pub const BENCH: [&str; 14] = [
-    "feed 4 1 0\nfeed 6 2 0\ngo 0 0\nask 1 3 6\nask 2 1 6\nrun 12\n",
-    "feed 4 1 0\nfeed 6 2 0\ngo 0 0\nask 1 4 6\n",
-    "feed 4 1 0\nfeed 6 2 0\ngo 0 0\nask 1 4 7\nrun 24\n",
-    "feed 4 1 0\nfeed 6 2 0\ngo 0 0\nask 1 5 12\nrun 24\n",
-    "feed 4 1 0\nfeed 6 2 0\ngo 0 0\nask 1 6 12\nrun 24\n",
-    "feed 4 1 0\nfeed 6 2 0\ngo 0 0\nask 1 6 13\nrun 24\n",
-    "feed 2 1 0\nfeed 4 2 0\ngo 0 0\nask 1 1 65536\nrun 8\n",
-    "feed 2 1 0\nfeed 4 2 0\ngo 0 0\nrest 1\nask 1 1 1\nrun 8\n",
-    "feed 4 4 0\ngo 0 0\nask 1 1 1\nrun 8\n",
+    "feed 4 1 0 4\nfeed 6 2 0 6\ngo 0 0\nask 1 3 6\nask 2 1 6\nrun 12\n",
+    "feed 4 1 0 4\nfeed 6 2 0 6\ngo 0 0\nask 1 4 6\n",
+    "feed 4 1 0 4\nfeed 6 2 0 6\ngo 0 0\nask 1 4 7\nrun 24\n",
+    "feed 4 1 0 4\nfeed 6 2 0 6\ngo 0 0\nask 1 5 12\nrun 24\n",
+    "feed 4 1 0 4\nfeed 6 2 0 6\ngo 0 0\nask 1 6 12\nrun 24\n",
+    "feed 4 1 0 4\nfeed 6 2 0 6\ngo 0 0\nask 1 6 13\nrun 24\n",
+    "feed 2 1 0 2\nfeed 4 2 0 4\ngo 0 0\nask 1 1 65536\nrun 8\n",
+    "feed 2 1 0 2\nfeed 4 2 0 4\ngo 0 0\nrest 1\nask 1 1 1\nrun 8\n",
+    "feed 4 4 0 4\ngo 0 0\nask 1 1 1\nrun 8\n",
     "go 0 0\nask 1 3 4\nask 2 2 2\nrun 8\n",
-    "feed 40319 1 0\nfeed 2 1 0\ngo 0 0\n",
-    "feed 2 1 0\nfeed 3 2 0\ngo 0 0\n",
+    "feed 40319 1 0 40319\nfeed 2 1 0 2\ngo 0 0\n",
+    "feed 2 1 0 2\nfeed 3 2 0 3\ngo 0 0\n",
     "go 1099511562240 0\nask 1 1 65536\nrun 2\n",
     "go 1099511562240 0\nrun 1\nask 1 1 65536\nrun 2\n",
 ];

@@ -8,7 +8,7 @@ use crate::{ahead, mesh, reason};
 
 /// A reading of the clock, or a deadline.
 pub type Instant = u64;
-/// A work, a period, a lead, a charge.
+/// A work, a period, a lead or deadline length, a charge.
 pub type Length = u64;
 
 pub const LAST_INSTANT: Instant = 1 << 40;
@@ -33,7 +33,7 @@ pub const TOO_MANY_FEEDS: Refusal = 8;
 pub const ROUND_TOO_LONG: Refusal = 9;
 pub const LOAD_TOO_HIGH: Refusal = 10;
 pub const BUFFER_TOO_SHORT: Refusal = 11;
-pub const LIST_NOT_IN_THREES: Refusal = 12;
+pub const LIST_NOT_IN_FOURS: Refusal = 12;
 pub const NOT_IN_ORDER: Refusal = 13;
 pub const FRONT_TOO_SHORT: Refusal = 15;
 pub const LENGTH_DISAGREES: Refusal = 16;
@@ -46,7 +46,10 @@ pub struct Feed {
     /// Without the charge, as it was lent.
     pub work: Length,
     pub offset: Length,
-    /// What the current piece still owes; 0 also while none has come.
+    /// How many ticks after it came a piece is due.
+    pub lead: Length,
+    /// What the current piece still owes; 0 also while none has come, and from its
+    /// deadline on.
     pub owes: Length,
 }
 
@@ -115,15 +118,33 @@ impl Feed {
         instant % self.period == self.offset
     }
 
-    /// The first release after the instant. As a piece's deadline is its
-    /// release plus the period, this is also the deadline of the piece that is
-    /// current at the instant (if one has come).
+    /// The last release at or before the instant, whether or not the desk was open
+    /// then; nothing while the instant is below the offset.
+    fn last_release(&self, instant: Instant) -> Option<Instant> {
+        let since_the_first = instant.checked_sub(self.offset)?;
+        Some(instant - since_the_first % self.period)
+    }
+
+    /// When the piece that is current at the instant is due, or was; nothing while
+    /// none can have come.
+    pub fn due(&self, instant: Instant) -> Option<Instant> {
+        Some(self.last_release(instant)? + self.lead)
+    }
+
+    /// The first release after the instant.
     pub fn next_release(&self, instant: Instant) -> Instant {
         if instant < self.offset {
             self.offset
         } else {
             instant + self.period - (instant - self.offset) % self.period
         }
+    }
+
+    /// The first instant after this one at which a piece is due: the current one,
+    /// or the next where it has not come or its deadline is over.
+    pub fn next_due(&self, instant: Instant) -> Instant {
+        let current = self.due(instant).filter(|due| *due > instant);
+        current.unwrap_or_else(|| self.next_release(instant) + self.lead)
     }
 }
 
@@ -157,10 +178,34 @@ fn feed_within_limits(feed: &Feed) -> bool {
     within(feed.period, 1, FEED_LENGTH_MOST)
         && within(feed.work, 1, FEED_LENGTH_MOST)
         && feed.offset < feed.period
+        && within(feed.lead, 1, feed.period)
+}
+
+/// Line 10: whether some stretch of ticks has fewer than the pieces want that come
+/// and are due in it, all feeds being released together at its beginning. No other
+/// offsets want more. Pieces are counted one by one as they fall due; in between
+/// the stretch grows and what is wanted does not. A stretch of L and a round more
+/// wants what L wants and what the round does, so none longer than the round need
+/// be looked at.
+fn too_much_is_wanted(feeds: &[Feed], charge: Length, round: Length) -> bool {
+    let mut dues: Vec<Length> = feeds.iter().map(|feed| feed.lead).collect();
+    let mut wanted = 0;
+    while let Some(stretch) = dues.iter().copied().min().filter(|due| *due <= round) {
+        for (due, feed) in dues.iter_mut().zip(feeds) {
+            if *due == stretch {
+                wanted += feed.charged_work(charge);
+                *due += feed.period;
+            }
+        }
+        if wanted > stretch {
+            return true;
+        }
+    }
+    false
 }
 
 /// Lines 2, 9 and 10 of the opening, in that order; 10 is judged on charged work.
-fn feeds_refusal(feeds: &[Feed], charge: Length) -> Option<Refusal> {
+pub fn feeds_refusal(feeds: &[Feed], charge: Length) -> Option<Refusal> {
     if !feeds.iter().all(feed_within_limits) {
         return Some(OUTSIDE_LIMITS);
     }
@@ -168,18 +213,16 @@ fn feeds_refusal(feeds: &[Feed], charge: Length) -> Option<Refusal> {
         Some(round) => round,
         None => return Some(ROUND_TOO_LONG),
     };
-    let wanted = |feed: &Feed| feed.charged_work(charge) * (round / feed.period);
-    let load: Length = feeds.iter().map(wanted).sum();
-    (load > round).then_some(LOAD_TOO_HIGH)
+    too_much_is_wanted(feeds, charge, round).then_some(LOAD_TOO_HIGH)
 }
 
 /// Opening: 12, 8, 3, 18, 2, 9, 10. (A refused opening's state is the default.)
 pub fn open(list: &[u32], start: Instant, charge: u32) -> Result<Desk, Refusal> {
     let charge = Length::from(charge);
-    if list.len() % 3 != 0 {
-        return Err(LIST_NOT_IN_THREES);
+    if list.len() % 4 != 0 {
+        return Err(LIST_NOT_IN_FOURS);
     }
-    if list.len() / 3 > FEEDS_MOST {
+    if list.len() / 4 > FEEDS_MOST {
         return Err(TOO_MANY_FEEDS);
     }
     if start > LAST_INSTANT {
@@ -189,11 +232,12 @@ pub fn open(list: &[u32], start: Instant, charge: u32) -> Result<Desk, Refusal> 
         return Err(CHARGE_TOO_HIGH);
     }
     let mut feeds: Vec<Feed> = list
-        .chunks(3)
-        .map(|three| Feed {
-            period: three[0].into(),
-            work: three[1].into(),
-            offset: three[2].into(),
+        .chunks(4)
+        .map(|four| Feed {
+            period: four[0].into(),
+            work: four[1].into(),
+            offset: four[2].into(),
+            lead: four[3].into(),
             owes: 0,
         })
         .collect();
@@ -227,10 +271,14 @@ impl Desk {
     fn feeds_in_order(&self) -> bool {
         self.feeds.len() <= FEEDS_MOST
             && feeds_refusal(&self.feeds, self.charge).is_none()
-            && self.feeds.iter().all(|feed| {
-                feed.owes <= feed.charged_work(self.charge)
-                    && (feed.owes == 0 || self.clock >= feed.offset)
-            })
+            && self.feeds.iter().all(|feed| self.piece_in_order(feed))
+    }
+
+    /// A current piece owes at most its charged work, and nothing while it can't have
+    /// come or from its deadline on.
+    fn piece_in_order(&self, feed: &Feed) -> bool {
+        let before_its_deadline = || feed.due(self.clock).map_or(false, |due| due > self.clock);
+        feed.owes <= feed.charged_work(self.charge) && (feed.owes == 0 || before_its_deadline())
     }
 
     fn jobs_in_order(&self) -> bool {
@@ -327,7 +375,10 @@ impl Desk {
         let feeds = (1u32..)
             .zip(&self.feeds)
             .filter(|(_, feed)| feed.owes > 0)
-            .map(|(position, feed)| (feed.next_release(self.clock), 1, position));
+            .map(|(position, feed)| {
+                let due = feed.due(self.clock).expect("it owes, so it has come");
+                (due, 1, position)
+            });
         match jobs.chain(feeds).min() {
             None => Runner::Idle,
             Some((_, 0, number)) => Runner::Job(number),
@@ -350,8 +401,10 @@ impl Desk {
         self.clock += 1;
         for feed in &mut self.feeds {
             if feed.releases_at(self.clock) {
-                // A late piece gives way to the next.
                 feed.owes = feed.charged_work(self.charge);
+            } else if feed.due(self.clock) == Some(self.clock) {
+                // Served or not: from its deadline on it owes nothing.
+                feed.owes = 0;
             }
         }
         Ran { runner, owes }
@@ -391,7 +444,8 @@ impl Desk {
         Ok(next)
     }
 
-    /// Resting: 13, 7. (A piece that hasn't come owes nothing.)
+    /// Resting: 13, 7. (A piece that hasn't come, or whose deadline is over, owes
+    /// nothing.)
     pub fn rest(&self, position: u32) -> Result<Desk, Refusal> {
         if !self.in_order() {
             return Err(NOT_IN_ORDER);

@@ -30,12 +30,14 @@ fn model_feed(feed: &Feed) -> model::Feed {
         period,
         work,
         offset,
+        lead,
         owes,
     } = *feed;
     model::Feed {
         period,
         work,
         offset,
+        lead,
         owes,
     }
 }
@@ -66,12 +68,14 @@ pub fn write(state: &model::Desk) -> Desk {
             period,
             work,
             offset,
+            lead,
             owes,
         } = *feed;
         *place = Feed {
             period,
             work,
             offset,
+            lead,
             owes,
         };
     }

@@ -8,11 +8,12 @@
 //! The margin at an instant D is the time until D less what is owed by D. Let M
 //! be an instant after the clock, at or after every job's deadline (the new one's
 //! too) and every feed's next release, and R the round. A deadline after M is
-//! that of a whole piece: it was released at the feed's next release or later.
-//! In any R instants that follow on each other a feed with period T has R/T
-//! deadlines, so from D to D + R, where D is M or later, exactly R/T whole pieces
-//! of each feed are added, together at most R by line 10, while the time until
-//! then grows by R. So the margin at D + R is never below that at D.
+//! that of a whole piece: it was released at the feed's next release or later, as
+//! the piece before is due by then. In any R instants that follow on each other a
+//! feed with period T has R/T deadlines, so from D to D + R, where D is M or later,
+//! exactly R/T whole pieces of each feed are added, together at most R by line 10
+//! for a stretch of R, while the time until then grows by R. So the margin at D + R
+//! is never below that at D.
 //!
 //! - If some instant at or after M + R is overbooked, so is the one a round
 //!   before it: the first overbooked one comes before M + R.
@@ -49,8 +50,8 @@ struct Stream {
     charged_work: Length,
     /// The next instant at which a piece of it falls due.
     due: Instant,
-    /// What that piece owes: first the current one (nothing where none has
-    /// come), then whole ones.
+    /// What that piece owes: first the current one where its deadline is still to
+    /// come, then whole ones.
     owes: Length,
 }
 
@@ -69,11 +70,16 @@ pub struct Instants {
 impl Instants {
     /// With a new job that owes this much within this lead.
     pub fn after_the_clock(desk: &Desk, owes: Length, lead: Length) -> Instants {
-        let stream = |feed: &Feed| Stream {
-            period: feed.period,
-            charged_work: feed.charged_work(desk.charge),
-            due: feed.next_release(desk.clock),
-            owes: feed.owes,
+        let stream = |feed: &Feed| {
+            let charged_work = feed.charged_work(desk.charge);
+            let due = feed.next_due(desk.clock);
+            let is_current = feed.due(desk.clock) == Some(due);
+            Stream {
+                period: feed.period,
+                charged_work,
+                due,
+                owes: if is_current { feed.owes } else { charged_work },
+            }
         };
         let mut jobs = desk.jobs.clone();
         jobs.sort_by_key(|job| std::cmp::Reverse(job.deadline));

@@ -10,7 +10,7 @@ const DIGITS_MOST: usize = 13;
 
 #[derive(Clone, Copy, Debug, PartialEq, Eq)]
 pub enum Line {
-    Feed(u32, u32, u32),
+    Feed(u32, u32, u32, u32),
     Go(u64, u32),
     Ask(u32, u32, u32),
     End(u32),
@@ -24,9 +24,12 @@ pub enum Line {
 pub fn read_line(line: &[u8]) -> Option<Line> {
     let fields: Vec<&[u8]> = line.split(|&byte| byte == b' ').collect();
     match fields[..] {
-        [b"feed", period, work, offset] => {
-            Some(Line::Feed(number(period)?, number(work)?, number(offset)?))
-        }
+        [b"feed", period, work, offset, lead] => Some(Line::Feed(
+            number(period)?,
+            number(work)?,
+            number(offset)?,
+            number(lead)?,
+        )),
         [b"go", start, charge] => Some(Line::Go(digits(start)?, number(charge)?)),
         [b"ask", job, work, lead] => Some(Line::Ask(number(job)?, number(work)?, number(lead)?)),
         [b"end", job] => Some(Line::End(number(job)?)),
@@ -57,7 +60,7 @@ fn number(field: &[u8]) -> Option<u32> {
 
 /// Where the program stands between two lines.
 pub enum Stage {
-    /// Before `go`: the feed lines so far, three numbers each.
+    /// Before `go`: the feed lines so far, four numbers each.
     Gathering(Vec<u32>),
     Open(Desk),
     /// After a refused `go`.
@@ -91,7 +94,7 @@ pub fn rehearse(input: &[u8], out: &mut impl Write) -> io::Result<()> {
 /// Feeds and one go before anything else, and not after; at most 17 feeds.
 fn allowed(stage: Stage, line: Line) -> Option<(Stage, Line)> {
     let fine = match (&stage, line) {
-        (Stage::Gathering(list), Line::Feed(..)) => list.len() < 3 * FEED_LINES_MOST,
+        (Stage::Gathering(list), Line::Feed(..)) => list.len() < 4 * FEED_LINES_MOST,
         (Stage::Gathering(_), Line::Go(..)) => true,
         (Stage::Gathering(_), _) => false,
         (Stage::Open(_), Line::Feed(..) | Line::Go(..)) => false,
@@ -104,8 +107,8 @@ fn allowed(stage: Stage, line: Line) -> Option<(Stage, Line)> {
 /// Does what an allowed line says and prints what it answers.
 pub fn follow(stage: Stage, line: Line, out: &mut impl Write) -> io::Result<Stage> {
     match (stage, line) {
-        (Stage::Gathering(mut list), Line::Feed(period, work, offset)) => {
-            list.extend([period, work, offset]);
+        (Stage::Gathering(mut list), Line::Feed(period, work, offset, lead)) => {
+            list.extend([period, work, offset, lead]);
             Ok(Stage::Gathering(list))
         }
         (Stage::Gathering(list), Line::Go(start, charge)) => go(&list, start, charge, out),

@@ -2,9 +2,11 @@
 //! kind of bad line, each band of a mesh, the reasons against a slower way of
 //! adding up, the rehearsal ahead against two slower ways of knowing, and the
 //! comparing of calls against libraries with one fault planted. What the charge
-//! changes is in `charge`, but random states here are under any charge.
+//! changes is in `charge` and what deadlines before the next release change in
+//! `deadlines`, but random states here are under any charge, and with any deadlines.
 
 mod charge;
+mod deadlines;
 
 use crate::ahead;
 use crate::boundary::{self, Answer, Label, Library, Listed, Stepped};
@@ -26,14 +28,14 @@ fn said(input: &str) -> String {
 }
 
 fn x() -> Desk {
-    open(&[4, 1, 0, 6, 2, 0], 0, 0).unwrap()
+    open(&[4, 1, 0, 4, 6, 2, 0, 6], 0, 0).unwrap()
 }
 
 // ---------------------------------------------------------------- the document
 
 #[test]
 fn the_documents_rehearsal() {
-    let input = "feed 4 1 0\nfeed 6 2 0\ngo 0 0\nask 1 3 6\nask 2 1 6\nrun 12\n";
+    let input = "feed 4 1 0 4\nfeed 6 2 0 6\ngo 0 0\nask 1 3 6\nask 2 1 6\nrun 12\n";
     let output = "go ok\nask 1 yes\nask 2 no 6\n0 feed 1\n1 job 1\n2 job 1\n3 job 1\n4 feed 2\n\
                   5 feed 2\n6 feed 1\n7 feed 2\n8 feed 1\n9 feed 2\n10 idle\n11 idle\n";
     assert_eq!(said(input), output);
@@ -52,11 +54,14 @@ fn bench_examples_on_x() {
 
 #[test]
 fn bench_examples_of_full_feeds() {
-    let full = open(&[2, 1, 0, 4, 2, 0], 0, 0).unwrap();
+    let full = open(&[2, 1, 0, 2, 4, 2, 0, 4], 0, 0).unwrap();
     assert_eq!(full.ask(1, 1, 65_536).err(), Some(6));
     let rested = full.rest(1).unwrap();
     assert_eq!(rested.ask(1, 1, 1).err(), None);
-    assert_eq!(open(&[4, 4, 0], 0, 0).unwrap().ask(1, 1, 1).err(), Some(6));
+    assert_eq!(
+        open(&[4, 4, 0, 4], 0, 0).unwrap().ask(1, 1, 1).err(),
+        Some(6)
+    );
 }
 
 #[test]
@@ -67,9 +72,13 @@ fn bench_example_of_two_jobs() {
 
 #[test]
 fn bench_examples_of_openings() {
-    assert_eq!(open(&[4, 1, 0, 6], 0, 0).err(), Some(12));
-    assert_eq!(open(&[40_319, 1, 0, 2, 1, 0], 0, 0).err(), Some(9));
-    assert_eq!(open(&[2, 1, 0, 3, 2, 0], 0, 0).err(), Some(10));
+    assert_eq!(open(&[4, 1, 0, 6], 0, 0).err(), Some(2));
+    assert_eq!(open(&[4, 1, 0], 0, 0).err(), Some(12));
+    assert_eq!(
+        open(&[40_319, 1, 0, 40_319, 2, 1, 0, 2], 0, 0).err(),
+        Some(9)
+    );
+    assert_eq!(open(&[2, 1, 0, 2, 3, 2, 0, 3], 0, 0).err(), Some(10));
 }
 
 #[test]
@@ -112,35 +121,41 @@ fn bench_examples_as_scripts() {
 
 #[test]
 fn refusals_of_open_in_order() {
-    let seventeen = [1u32; 51];
-    assert_eq!(open(&[1; 52], LAST_INSTANT + 1, 0).err(), Some(12));
+    let seventeen = [1u32; 68];
+    assert_eq!(open(&[1; 69], LAST_INSTANT + 1, 0).err(), Some(12));
     assert_eq!(open(&seventeen, LAST_INSTANT + 1, 0).err(), Some(8));
-    assert_eq!(open(&[0, 0, 0], LAST_INSTANT + 1, 0).err(), Some(3));
-    assert_eq!(open(&[40_319, 1, 0, 2, 0, 0], 0, 0).err(), Some(2));
+    assert_eq!(open(&[0, 0, 0, 0], LAST_INSTANT + 1, 0).err(), Some(3));
+    assert_eq!(
+        open(&[40_319, 1, 0, 40_319, 2, 0, 0, 2], 0, 0).err(),
+        Some(2)
+    );
     for (list, refusal) in [
-        (&[0, 0, 0, 1][..], 12),
+        (&[0, 0, 0][..], 12),
         (&seventeen, 8),
-        (&[0, 0, 0], 18),
-        (&[40_319, 1, 0, 2, 1, 0], 18),
-        (&[4, 5, 0], 18),
+        (&[0, 0, 0, 0], 18),
+        (&[40_319, 1, 0, 40_319, 2, 1, 0, 2], 18),
+        (&[4, 5, 0, 4], 18),
         (&[], 18),
     ] {
         assert_eq!(open(list, 0, 17).err(), Some(refusal));
     }
-    assert_eq!(open(&[0, 0, 0], LAST_INSTANT + 1, 17).err(), Some(3));
+    assert_eq!(open(&[0, 0, 0, 0], LAST_INSTANT + 1, 17).err(), Some(3));
     for outside in [
-        [0, 1, 0],
-        [40_321, 1, 0],
-        [4, 0, 0],
-        [4, 40_321, 0],
-        [4, 1, 4],
+        [0, 1, 0, 1],
+        [40_321, 1, 0, 1],
+        [4, 0, 0, 4],
+        [4, 40_321, 0, 4],
+        [4, 1, 4, 4],
     ] {
         assert_eq!(open(&outside, 0, 0).err(), Some(2));
     }
-    assert_eq!(open(&[40_319, 40_320, 0, 2, 2, 0], 0, 0).err(), Some(9));
-    assert_eq!(open(&[4, 5, 0], LAST_INSTANT, 0).err(), Some(10));
-    assert!(open(&[4, 4, 3], LAST_INSTANT, 0).is_ok());
-    assert!(open(&[20, 1, 0].repeat(16), 0, 0).is_ok());
+    assert_eq!(
+        open(&[40_319, 40_320, 0, 40_319, 2, 2, 0, 2], 0, 0).err(),
+        Some(9)
+    );
+    assert_eq!(open(&[4, 5, 0, 4], LAST_INSTANT, 0).err(), Some(10));
+    assert!(open(&[4, 4, 3, 4], LAST_INSTANT, 0).is_ok());
+    assert!(open(&[20, 1, 0, 20].repeat(16), 0, 0).is_ok());
 }
 
 #[test]
@@ -171,14 +186,14 @@ fn refusals_of_ask_in_order() {
 
 #[test]
 fn refusals_elsewhere() {
-    let last = open(&[4, 1, 0], LAST_INSTANT, 0).unwrap();
+    let last = open(&[4, 1, 0, 4], LAST_INSTANT, 0).unwrap();
     assert_eq!(last.step().err(), Some(3));
     assert_eq!(last.end(0).err(), Some(7));
     assert_eq!(last.rest(0).err(), Some(7));
     assert_eq!(last.rest(2).err(), Some(7));
     let rested = last.rest(1).unwrap();
     assert_eq!(rested.rest(1).err(), Some(7));
-    let not_come = open(&[4, 1, 3], 0, 0).unwrap();
+    let not_come = open(&[4, 1, 3, 4], 0, 0).unwrap();
     assert_eq!(not_come.rest(1).err(), Some(7));
     let one = x().ask(9, 1, 50).unwrap();
     assert_eq!(one.list(&mut [0; 2]).err(), Some(11));
@@ -402,7 +417,7 @@ fn reasons_on_x() {
 
 #[test]
 fn reasons_of_full_feeds() {
-    let full = open(&[2, 1, 0, 4, 2, 0], 0, 0).unwrap();
+    let full = open(&[2, 1, 0, 2, 4, 2, 0, 4], 0, 0).unwrap();
     // Every fourth instant has margin 0 without it: the first of them that it is
     // owed by is overbooked.
     assert_eq!(full.why(1, 1, 65_536), overbooked(65_536, 0, 65_536, 1, -1));
@@ -414,7 +429,7 @@ fn reasons_of_full_feeds() {
     assert_eq!(rested.why(1, 1, 65_536), tightest(0, 65_536));
     assert_eq!(rested.why(1, 1, 65_535), tightest(0, 65_536));
     assert_eq!(rested.why(1, 1, 4), tightest(0, 4));
-    let whole = open(&[4, 4, 0], 0, 0).unwrap();
+    let whole = open(&[4, 4, 0, 4], 0, 0).unwrap();
     assert_eq!(whole.why(1, 1, 1), overbooked(4, 0, 4, 1, -1));
 }
 
@@ -445,20 +460,20 @@ fn reasons_of_jobs_alone() {
 /// before the first has come.
 #[test]
 fn reasons_with_pieces_that_ran_or_have_not_come() {
-    let (desk, ran) = open(&[10, 4, 0], 0, 0).unwrap().step().unwrap();
+    let (desk, ran) = open(&[10, 4, 0, 10], 0, 0).unwrap().step().unwrap();
     assert_eq!(ran.owes, 3);
     assert_eq!(desk.why(1, 6, 9), tightest(0, 10));
     assert_eq!(desk.why(1, 7, 9), overbooked(10, 0, 3, 7, -1));
     // Both clocks are before the piece of instant 7, due at 17.
     for clock in [0, 6] {
-        let desk = open(&[10, 10, 7], clock, 0).unwrap();
+        let desk = open(&[10, 10, 7, 10], clock, 0).unwrap();
         let room = 7 - clock as u32;
         assert_eq!(desk.why(1, room, room), tightest(0, 7));
         let why = desk.why(1, room + 1, room + 1);
         assert_eq!(why, overbooked(17, 0, 10, 8 - clock, -1));
     }
     // Opened in mid-period: the piece of instant 7 never was.
-    let desk = open(&[10, 10, 7], 8, 0).unwrap();
+    let desk = open(&[10, 10, 7, 10], 8, 0).unwrap();
     assert_eq!(desk.why(1, 9, 9), tightest(0, 17));
     assert_eq!(desk.why(1, 10, 10), overbooked(27, 0, 10, 10, -1));
 }
@@ -467,7 +482,7 @@ fn reasons_with_pieces_that_ran_or_have_not_come() {
 #[test]
 fn a_reason_long_after_the_last_job() {
     let rested = |start: u64| {
-        let feed = [40_320, 40_320, (start % 40_320) as u32];
+        let feed = [40_320, 40_320, (start % 40_320) as u32, 40_320];
         open(&feed, start, 0).unwrap().rest(1).unwrap()
     };
     for start in [0, 12_345, LAST_INSTANT - 65_536] {
@@ -489,7 +504,8 @@ fn a_reason_long_after_the_last_job() {
 fn a_reason_as_late_as_can_be() {
     for start in [0, 12_345, LAST_INSTANT - 65_536] {
         let offset = (start + 65_535) % 40_320;
-        let desk = open(&[40_320, 40_320, offset as u32], start, 0).unwrap();
+        let feed = [40_320, 40_320, offset as u32, 40_320];
+        let desk = open(&feed, start, 0).unwrap();
         let at = start + 65_536 + 40_320 - 1;
         assert_eq!(desk.why(1, 25_215, 65_536), tightest(0, at));
         let why = desk.why(1, 25_216, 65_536);
@@ -499,7 +515,7 @@ fn a_reason_as_late_as_can_be() {
 
 #[test]
 fn reasons_past_the_last_instant() {
-    let desk = open(&[10, 10, 7], LAST_INSTANT - 2, 0).unwrap();
+    let desk = open(&[10, 10, 7, 10], LAST_INSTANT - 2, 0).unwrap();
     // 2^40 leaves 6 when divided by 10, so that pieces come at 2^40 + 1 and so on.
     assert_eq!(LAST_INSTANT % 10, 6);
     assert_eq!(desk.why(1, 1, 1), tightest(0, LAST_INSTANT - 1));
@@ -509,12 +525,12 @@ fn reasons_past_the_last_instant() {
     assert_eq!(why, overbooked(LAST_INSTANT, 0, 0, 3, -1));
     let (desk, _) = desk.ask(1, 2, 2).unwrap().step().unwrap();
     assert_eq!(desk.why(2, 1, 1), overbooked(LAST_INSTANT, 1, 0, 1, -1));
-    let full = open(&[8, 8, 0], LAST_INSTANT - 1, 0).unwrap();
+    let full = open(&[8, 8, 0, 8], LAST_INSTANT - 1, 0).unwrap();
     assert_eq!(LAST_INSTANT % 8, 0);
     assert_eq!(full.why(1, 1, 1), tightest(0, LAST_INSTANT));
-    let full = open(&[8, 8, 1], LAST_INSTANT - 1, 0).unwrap();
+    let full = open(&[8, 8, 1, 8], LAST_INSTANT - 1, 0).unwrap();
     assert_eq!(full.why(1, 1, 1), tightest(0, LAST_INSTANT));
-    let mut full = open(&[8, 4, 1, 8, 4, 3], LAST_INSTANT - 6, 0).unwrap();
+    let mut full = open(&[8, 4, 1, 8, 8, 4, 3, 8], LAST_INSTANT - 6, 0).unwrap();
     while full.clock < LAST_INSTANT - 1 {
         full = full.step().unwrap().0;
     }
@@ -542,7 +558,7 @@ fn other_refusals_come_with_their_number_alone() {
     disordered.clock = LAST_INSTANT + 1;
     assert_eq!(disordered.why(0, 0, 0), alone(13));
     assert_eq!(disordered.why(1, 1, 1), alone(13));
-    let last = open(&[4, 4, 0], LAST_INSTANT, 0).unwrap();
+    let last = open(&[4, 4, 0, 4], LAST_INSTANT, 0).unwrap();
     assert_eq!(last.why(0, 0, 0), alone(1));
     assert_eq!(last.why(1, 0, 1), alone(2));
     assert_eq!(last.why(1, 1, 0), alone(2));
@@ -608,11 +624,11 @@ fn owed_by(desk: &Desk, owes: u64, lead: u64, at: Instant) -> Owed {
     let jobs = live.map(|job| job.owed).sum();
     let mut feeds = 0;
     for feed in &desk.feeds {
-        let mut release = feed.next_release(desk.clock);
-        if release <= at {
+        if feed.due(desk.clock).map_or(false, |due| due <= at) {
             feeds += feed.owes;
         }
-        while release + feed.period <= at {
+        let mut release = feed.next_release(desk.clock);
+        while release + feed.lead <= at {
             feeds += feed.work + desk.charge;
             release += feed.period;
         }
@@ -676,7 +692,7 @@ fn far_enough_has_a_round_to_spare() {
 
 #[test]
 fn equal_deadlines_go_by_rank() {
-    let desk = open(&[6, 1, 0, 6, 1, 0], 0, 0)
+    let desk = open(&[6, 1, 0, 6, 6, 1, 0, 6], 0, 0)
         .unwrap()
         .ask(7, 1, 6)
         .unwrap()
@@ -701,7 +717,7 @@ fn equal_deadlines_go_by_rank() {
 
 #[test]
 fn an_opening_in_mid_period_waits_for_the_next_piece() {
-    let desk = open(&[10, 10, 7], 8, 0).unwrap();
+    let desk = open(&[10, 10, 7, 10], 8, 0).unwrap();
     assert_eq!(desk.feeds[0].owes, 0);
     assert!(desk.ask(1, 9, 9).is_ok());
     assert_eq!(desk.ask(1, 10, 10).err(), Some(6));
@@ -709,7 +725,7 @@ fn an_opening_in_mid_period_waits_for_the_next_piece() {
 
 #[test]
 fn a_step_tells_what_is_owed_before_a_release() {
-    let (next, ran) = open(&[1, 1, 0], 0, 0).unwrap().step().unwrap();
+    let (next, ran) = open(&[1, 1, 0, 1], 0, 0).unwrap().step().unwrap();
     assert_eq!(
         ran,
         Ran {
@@ -731,13 +747,13 @@ fn a_late_job_stays_and_a_late_piece_gives_way() {
         period: 2,
         work: 2,
         offset: 0,
+        lead: 2,
         owes: 2,
     };
     let desk = Desk {
-        clock: 0,
-        charge: 0,
         feeds: vec![feed],
         jobs: vec![job(5, 1), job(4, 1)],
+        ..Desk::default()
     };
     assert!(desk.in_order());
     assert_eq!(desk.ask(1, 1, 65_536).err(), Some(6));
@@ -753,9 +769,8 @@ fn a_late_job_stays_and_a_late_piece_gives_way() {
     assert!(!late.in_order());
     let desk = Desk {
         clock: 1,
-        charge: 0,
         feeds: vec![feed],
-        jobs: vec![],
+        ..Desk::default()
     };
     let (next, ran) = desk.step().unwrap();
     assert_eq!(ran.owes, 1);
@@ -801,7 +816,7 @@ fn listing_and_labels() {
     assert_eq!(x().label(&[], &[1; 8]), Place::InFeedLabels(0));
     assert_eq!(x().label(&[], &[1; 7]), Place::Empty);
     assert_eq!(
-        open(&[4, 1, 0], LAST_INSTANT, 0)
+        open(&[4, 1, 0, 4], LAST_INSTANT, 0)
             .unwrap()
             .label(&records, &[1; 8]),
         Place::Empty
@@ -813,7 +828,7 @@ fn listing_and_labels() {
 }
 
 /// Each way to damage a state that the document names.
-const DAMAGES: [fn(&mut Desk); 18] = [
+const DAMAGES: [fn(&mut Desk); 22] = [
     |desk| desk.clock = LAST_INSTANT + 1,
     |desk| desk.charge = 17,
     |desk| desk.charge = 2,
@@ -823,6 +838,7 @@ const DAMAGES: [fn(&mut Desk); 18] = [
                 period: 40_320,
                 work: 1,
                 offset: 0,
+                lead: 40_320,
                 owes: 0
             };
             15
@@ -832,6 +848,10 @@ const DAMAGES: [fn(&mut Desk); 18] = [
     |desk| desk.feeds[0].period = 40_319,
     |desk| desk.feeds[0].work = 3,
     |desk| desk.feeds[0].offset = 4,
+    |desk| desk.feeds[0].lead = 0,
+    |desk| desk.feeds[0].lead = 5,
+    |desk| desk.feeds[1].lead = 1,
+    |desk| desk.feeds[1].lead = 3,
     |desk| desk.feeds[0].owes = 2,
     |desk| desk.jobs[0].number = 0,
     |desk| desk.jobs[0].number = 2,
@@ -849,7 +869,7 @@ const DAMAGES: [fn(&mut Desk); 18] = [
 
 #[test]
 fn damaged_states_are_not_in_order() {
-    let good = open(&[4, 1, 0, 6, 2, 5], 8, 0)
+    let good = open(&[4, 1, 0, 4, 6, 2, 5, 6], 8, 0)
         .unwrap()
         .ask(1, 2, 20)
         .unwrap()
@@ -858,6 +878,7 @@ fn damaged_states_are_not_in_order() {
     assert!(good.in_order());
     for (which, damage) in DAMAGES.iter().enumerate() {
         let mut desk = good.clone();
+        // Its piece came three ticks ago.
         desk.feeds[1].owes = 1;
         assert!(desk.in_order());
         damage(&mut desk);
@@ -884,7 +905,7 @@ fn unused_places_must_be_zero() {
 // ---------------------------------------------------------------- the program
 
 /// Bad before `go`.
-const BAD_BEFORE_GO: [&str; 38] = [
+const BAD_BEFORE_GO: [&str; 43] = [
     "",
     " ",
     "go",
@@ -908,11 +929,16 @@ const BAD_BEFORE_GO: [&str; 38] = [
     "go 0 0 0",
     "Go 0 0",
     "feed 4 1",
-    "feed 4 1 0 0",
-    "feed 04 1 0",
-    "feed 4294967296 1 0",
-    "feed 4 4294967296 0",
-    "feed 4 1 4294967296",
+    "feed 4 1 0",
+    "feed 4 1 0 ",
+    "feed 4 1 0 4 4",
+    "feed 4 1 0 4 ",
+    "feed 04 1 0 4",
+    "feed 4 1 0 04",
+    "feed 4294967296 1 0 4",
+    "feed 4 4294967296 0 4",
+    "feed 4 1 4294967296 4",
+    "feed 4 1 0 4294967296",
     "word",
     "go 0 0\r",
     "go\t0 0",
@@ -943,7 +969,7 @@ const BAD_AFTER_GO: [&str; 19] = [
     "run 4097",
     "run 04",
     "go 0 0",
-    "feed 4 1 0",
+    "feed 4 1 0 4",
     "run 1 ",
     "list",
 ];
@@ -951,7 +977,7 @@ const BAD_AFTER_GO: [&str; 19] = [
 #[test]
 fn bad_lines() {
     for line in BAD_BEFORE_GO {
-        let output = said(&format!("feed 4 1 0\n{line}\ngo 0 0\n"));
+        let output = said(&format!("feed 4 1 0 4\n{line}\ngo 0 0\n"));
         assert_eq!(output, "line 2 bad\n", "{line:?}");
     }
     for line in BAD_AFTER_GO {
@@ -963,8 +989,14 @@ fn bad_lines() {
 #[test]
 fn good_lines_at_their_limits() {
     assert_eq!(said(""), "");
-    assert_eq!(said("feed 4294967295 4294967295 4294967295\n"), "");
-    assert_eq!(said("feed 4294967295 1 0\ngo 0 0\n\n"), "go no 2\n");
+    assert_eq!(
+        said("feed 4294967295 4294967295 4294967295 4294967295\n"),
+        ""
+    );
+    assert_eq!(
+        said("feed 4294967295 1 0 4294967295\ngo 0 0\n\n"),
+        "go no 2\n"
+    );
     assert_eq!(
         said("go 1099511627776 0\nrun 0\nrun 2\nend 0\n"),
         "go ok\nrun no 3\nend no 7\n"
@@ -987,7 +1019,7 @@ fn good_lines_at_their_limits() {
 fn the_last_newline_and_the_count_of_feeds() {
     assert_eq!(said("go 0 0"), "line 1 bad\n");
     assert_eq!(said("go 0 0\nrun 1"), "go ok\nline 2 bad\n");
-    let feeds = |count| "feed 20 1 0\n".repeat(count) + "go 0 0\n";
+    let feeds = |count| "feed 20 1 0 20\n".repeat(count) + "go 0 0\n";
     assert_eq!(said(&feeds(16)), "go ok\n");
     assert_eq!(said(&feeds(17)), "go no 8\n");
     assert_eq!(said(&feeds(18)), "line 18 bad\n");
@@ -1016,7 +1048,7 @@ fn the_flood_is_just_not_too_long() {
 #[test]
 fn reuse_ends_and_rests_in_a_script() {
     let input =
-        "feed 4 2 1\ngo 2 0\nask 1 2 3\nask 1 1 9\nrun 2\nask 1 2 3\nrest 1\nrun 1\nrest 1\n\
+        "feed 4 2 1 4\ngo 2 0\nask 1 2 3\nask 1 1 9\nrun 2\nask 1 2 3\nrest 1\nrun 1\nrest 1\n\
                  rest 1\nend 1\nend 1\nrun 2\n";
     let output = "go ok\nask 1 yes\nask 1 no 4\n2 job 1\n3 job 1\nask 1 yes\nrest no 7\n4 job 1\n\
                   rest ok\nrest no 7\nend ok\nend no 7\n5 idle\n6 idle\n";
@@ -1030,16 +1062,8 @@ fn never_late_slowly(desk: &Desk) -> bool {
     let stop = ahead::far_enough(desk);
     let mut now = desk.clone();
     while now.clock < stop {
-        let owing: Vec<bool> = now.feeds.iter().map(|feed| feed.owes > 0).collect();
-        let runner = now.next_runner();
-        let ran = now.tick();
-        for (place, feed) in now.feeds.iter().enumerate() {
-            let served = runner == Runner::Feed(place as u32 + 1) && ran.owes == 0;
-            if feed.releases_at(now.clock) && owing[place] && !served {
-                return false;
-            }
-        }
-        if now.jobs.iter().any(|job| job.deadline <= now.clock) {
+        let late = deadlines::is_late_in_a_tick(&mut now);
+        if late || now.jobs.iter().any(|job| job.deadline <= now.clock) {
             return false;
         }
     }
@@ -1061,10 +1085,12 @@ fn choice_exists(desk: &Desk, last: Instant) -> bool {
         add(job.owed, desk.clock, job.deadline);
     }
     for feed in &desk.feeds {
+        if let Some(due) = feed.due(desk.clock).filter(|due| *due > desk.clock) {
+            add(feed.owes, desk.clock, due);
+        }
         let mut release = feed.next_release(desk.clock);
-        add(feed.owes, desk.clock, release);
         while release < last {
-            add(feed.work + desk.charge, release, release + feed.period);
+            add(feed.work + desk.charge, release, release + feed.lead);
             release += feed.period;
         }
     }
@@ -1091,23 +1117,33 @@ fn give(
     false
 }
 
+/// A feed whose current piece has run in part, if its deadline is still to come.
+fn small_feed(random: &mut Random, periods: &[u64], clock: Instant, charge: Length) -> Feed {
+    let period = random.pick(periods);
+    let work = random.between(1, period);
+    let any = random.between(1, period);
+    let mut feed = Feed {
+        period,
+        work,
+        offset: random.below(period),
+        lead: random.pick(&[period, any]),
+        owes: 0,
+    };
+    if feed.due(clock) > Some(clock) {
+        feed.owes = random.below(work + charge + 1);
+    }
+    feed
+}
+
 /// Small states in order, reachable or not, with loads up to full, half of them
-/// under a charge.
+/// under a charge, and half of the feeds' pieces due before the next.
 fn small_state(random: &mut Random, periods: &[u64], lead: u64) -> Desk {
     loop {
         let charge = random.pick(&[0, 0, 0, 1, 2, 5]);
-        let feeds = (0..random.below(4)).map(|_| {
-            let period = random.pick(periods);
-            let work = random.between(1, period);
-            Feed {
-                period,
-                work,
-                offset: random.below(period),
-                owes: random.below(work + charge + 1),
-            }
-        });
-        let feeds = feeds.collect();
         let clock = random.pick(&[0, 1, 3, 50, 51, LAST_INSTANT - 2 * lead]) + random.below(lead);
+        let feeds = (0..random.below(4))
+            .map(|_| small_feed(random, periods, clock, charge))
+            .collect();
         let jobs = (1..=random.below(4) as u32).map(|number| {
             let lead = random.between(1, lead);
             let owed = random.between(1, lead / 2 + 1);
@@ -1190,9 +1226,9 @@ fn what_just_fits() {
 /// Lateness in the very last stretch that the comment in `ahead` allows for.
 #[test]
 fn lateness_can_come_long_after_the_last_job() {
-    let desk = open(&[2, 1, 0, 40_320, 20_160, 0], 0, 0).unwrap();
+    let desk = open(&[2, 1, 0, 2, 40_320, 20_160, 0, 40_320], 0, 0).unwrap();
     assert_eq!(desk.ask(1, 1, 1).err(), Some(6));
-    let desk = open(&[2, 1, 0, 40_320, 20_159, 0], 0, 0).unwrap();
+    let desk = open(&[2, 1, 0, 2, 40_320, 20_159, 0, 40_320], 0, 0).unwrap();
     assert_eq!(desk.ask(1, 1, 2).err(), None);
     assert_eq!(desk.ask(1, 2, 4).err(), Some(6));
 }
@@ -1437,7 +1473,7 @@ fn faulty_overbooked(
         83 => why.jobs = state.jobs.iter().map(|job| job.owed).sum(),
         84 => why.job = owes,
         85 => {
-            let waiting = |feed: &&Feed| feed.next_release(desk.clock) > why.at;
+            let waiting = |feed: &&Feed| feed.due(desk.clock) > Some(why.at);
             let current = state.feeds.iter().filter(waiting);
             why.feeds += current.map(|feed| feed.owes).sum::<u64>();
         }
@@ -1445,7 +1481,7 @@ fn faulty_overbooked(
         86 => {
             let mut state = state.clone();
             for feed in &mut state.feeds {
-                if desk.clock >= feed.offset {
+                if feed.due(desk.clock) > Some(desk.clock) {
                     feed.owes = feed.charged_work(desk.charge);
                 }
             }
@@ -1523,7 +1559,8 @@ fn each_planted_fault_of_a_reason_is_found() {
 
 /// Notes what came: the lengths of fronts, the counts in them, by how much a
 /// file's length was off, the works taken, and how often a state was overbooked;
-/// which kinds of reason, by number; and which charges and states under them.
+/// which kinds of reason, by number; which charges and states under them; and which
+/// kinds of deadline.
 #[derive(Default)]
 struct Watching {
     lent: RefCell<BTreeSet<usize>>,
@@ -1533,9 +1570,15 @@ struct Watching {
     overbooked: Cell<u32>,
     reasons: RefCell<BTreeSet<(u32, &'static str)>>,
     charges: charge::Seen,
+    deadlines: deadlines::Seen,
 }
 
 impl Watching {
+    fn note_state(&self, desk: &State) {
+        self.charges.note(desk);
+        self.deadlines.note(desk);
+    }
+
     fn note_reason(&self, state: &Desk, lead: u64, why: &boundary::Reason) {
         let at = why.at;
         let own = state.clock + lead;
@@ -1634,7 +1677,7 @@ impl Library for Watching {
     }
     fn ask_mesh(&self, desk: State, head: &[u8], size: u64, number: u32, lead: u32) -> Answer {
         let answer = Own.ask_mesh(desk, head, size, number, lead);
-        self.charges.note(&desk);
+        self.note_state(&desk);
         self.lent.borrow_mut().insert(head.len());
         if let Some(b) = head.get(80..84) {
             let triangles = u32::from_le_bytes([b[0], b[1], b[2], b[3]]);
@@ -1663,23 +1706,25 @@ impl Library for Watching {
         why
     }
     fn step(&self, desk: State) -> Stepped {
-        self.charges.note(&desk);
-        Own.step(desk)
+        self.note_state(&desk);
+        let stepped = Own.step(desk);
+        self.deadlines.note_step(&desk, &stepped);
+        stepped
     }
     fn end(&self, desk: State, number: u32) -> Answer {
-        self.charges.note(&desk);
+        self.note_state(&desk);
         Own.end(desk, number)
     }
     fn rest(&self, desk: State, position: u32) -> Answer {
-        self.charges.note(&desk);
+        self.note_state(&desk);
         Own.rest(desk, position)
     }
     fn list(&self, desk: State, buffer: &mut [u64]) -> Listed {
-        self.charges.note(&desk);
+        self.note_state(&desk);
         Own.list(desk, buffer)
     }
     fn label(&self, desk: State, jobs: &[u8], feeds: &[u8]) -> Label {
-        self.charges.note(&desk);
+        self.note_state(&desk);
         Own.label(desk, jobs, feeds)
     }
 }
@@ -1711,4 +1756,5 @@ fn a_right_library_passes() {
     watching.saw_every_kind_of_mesh();
     watching.saw_every_kind_of_reason();
     watching.charges.saw_every_kind_of_state();
+    watching.deadlines.saw_every_kind();
 }

@@ -17,32 +17,32 @@ fn a_charge_within_its_limits() {
     }
     for charge in [17, 18, 256, 1 << 16, 1 << 31, u32::MAX] {
         assert_eq!(open(&[], 0, charge).err(), Some(18));
-        let answer = Own.open(&[4, 1, 0], 7, charge);
+        let answer = Own.open(&[4, 1, 0, 4], 7, charge);
         assert_eq!((answer.desk, answer.refusal), (State::default(), 18));
     }
     // Refused for another reason, the state is the empty one all the same.
-    let answer = Own.open(&[4, 5, 0], 7, 3);
+    let answer = Own.open(&[4, 5, 0, 4], 7, 3);
     assert_eq!((answer.desk, answer.refusal), (State::default(), 10));
 }
 
 #[test]
 fn line_10_is_judged_on_charged_work() {
-    assert!(open(&[4, 3, 0], 0, 1).is_ok());
-    assert_eq!(open(&[4, 3, 0], 0, 2).err(), Some(10));
-    assert!(open(&[40_320, 40_304, 0], 0, 16).is_ok());
-    assert_eq!(open(&[40_320, 40_305, 0], 0, 16).err(), Some(10));
+    assert!(open(&[4, 3, 0, 4], 0, 1).is_ok());
+    assert_eq!(open(&[4, 3, 0, 4], 0, 2).err(), Some(10));
+    assert!(open(&[40_320, 40_304, 0, 40_320], 0, 16).is_ok());
+    assert_eq!(open(&[40_320, 40_305, 0, 40_320], 0, 16).err(), Some(10));
     // In a round of 12 the first has three pieces and the second two.
-    assert!(open(&[4, 1, 0, 6, 2, 0], 0, 1).is_ok());
-    assert_eq!(open(&[4, 1, 0, 6, 2, 0], 0, 2).err(), Some(10));
-    assert_eq!(open(&[4, 1, 0, 6, 3, 0], 0, 1).err(), Some(10));
+    assert!(open(&[4, 1, 0, 4, 6, 2, 0, 6], 0, 1).is_ok());
+    assert_eq!(open(&[4, 1, 0, 4, 6, 2, 0, 6], 0, 2).err(), Some(10));
+    assert_eq!(open(&[4, 1, 0, 4, 6, 3, 0, 6], 0, 1).err(), Some(10));
     // The limit of a feed's work is without it.
-    assert_eq!(open(&[40_320, 40_320, 0], 0, 1).err(), Some(10));
-    assert_eq!(open(&[40_320, 40_321, 0], 0, 1).err(), Some(2));
+    assert_eq!(open(&[40_320, 40_320, 0, 40_320], 0, 1).err(), Some(10));
+    assert_eq!(open(&[40_320, 40_321, 0, 40_320], 0, 1).err(), Some(2));
 }
 
 #[test]
 fn a_feed_keeps_its_work_and_its_pieces_owe_the_charge() {
-    let desk = opened(&[10, 4, 0, 10, 2, 1], 2);
+    let desk = opened(&[10, 4, 0, 10, 10, 2, 1, 10], 2);
     let owe = |desk: &Desk| [desk.feeds[0].owes, desk.feeds[1].owes];
     assert_eq!([desk.feeds[0].work, desk.feeds[1].work], [4, 2]);
     assert_eq!(owe(&desk), [6, 0]);
@@ -55,15 +55,15 @@ fn a_feed_keeps_its_work_and_its_pieces_owe_the_charge() {
 fn charges_in_a_script() {
     assert_eq!(said("go 0 16\n"), "go ok\n");
     for charge in ["17", "18", "256", "4294967295"] {
-        let output = said(&format!("feed 0 0 0\ngo 0 {charge}\nbad"));
+        let output = said(&format!("feed 0 0 0 0\ngo 0 {charge}\nbad"));
         assert_eq!(output, "go no 18\n");
     }
     assert_eq!(said("go 1099511627777 17\n"), "go no 3\n");
     assert_eq!(said("go 0 4294967296\n"), "line 1 bad\n");
     assert_eq!(said("go 0\n"), "line 1 bad\n");
-    assert_eq!(said("feed 4 3 0\ngo 0 1\n"), "go ok\n");
-    assert_eq!(said("feed 4 3 0\ngo 0 2\n"), "go no 10\n");
-    let input = "feed 6 2 0\ngo 0 1\nask 1 1 6\nask 2 1 6\nrun 7\n";
+    assert_eq!(said("feed 4 3 0 4\ngo 0 1\n"), "go ok\n");
+    assert_eq!(said("feed 4 3 0 4\ngo 0 2\n"), "go no 10\n");
+    let input = "feed 6 2 0 6\ngo 0 1\nask 1 1 6\nask 2 1 6\nrun 7\n";
     let output = "go ok\nask 1 yes\nask 2 no 6\n0 job 1\n1 job 1\n2 feed 1\n3 feed 1\n4 feed 1\n\
                   5 idle\n6 feed 1\n";
     assert_eq!(said(input), output);
@@ -78,17 +78,17 @@ fn what_fits_without_a_charge_and_not_with_it() {
     assert_eq!(refusal(&opened(&[], 0), 6, 6), None);
     assert_eq!(refusal(&opened(&[], 1), 6, 6), Some(6));
     assert_eq!(refusal(&opened(&[], 1), 5, 6), None);
-    assert_eq!(refusal(&opened(&[10, 4, 0], 0), 6, 10), None);
-    assert_eq!(refusal(&opened(&[10, 4, 0], 2), 3, 10), Some(6));
-    assert_eq!(refusal(&opened(&[10, 4, 0], 2), 2, 10), None);
+    assert_eq!(refusal(&opened(&[10, 4, 0, 10], 0), 6, 10), None);
+    assert_eq!(refusal(&opened(&[10, 4, 0, 10], 2), 3, 10), Some(6));
+    assert_eq!(refusal(&opened(&[10, 4, 0, 10], 2), 2, 10), None);
     // By 20 the second piece owes 9 and the charge.
-    let rested = |charge| opened(&[10, 9, 0], charge).rest(1).unwrap();
+    let rested = |charge| opened(&[10, 9, 0, 10], charge).rest(1).unwrap();
     assert_eq!(refusal(&rested(0), 11, 20), None);
     assert_eq!(refusal(&rested(1), 10, 20), Some(6));
     assert_eq!(refusal(&rested(1), 9, 20), None);
     // X is full at charge 1.
-    assert_eq!(refusal(&opened(&[4, 1, 0, 6, 2, 0], 0), 3, 6), None);
-    let full = opened(&[4, 1, 0, 6, 2, 0], 1);
+    assert_eq!(refusal(&opened(&[4, 1, 0, 4, 6, 2, 0, 6], 0), 3, 6), None);
+    let full = opened(&[4, 1, 0, 4, 6, 2, 0, 6], 1);
     assert_eq!(refusal(&full, 1, 65_536), Some(6));
 }
 
@@ -134,7 +134,7 @@ fn a_mesh_owes_its_bands_work_and_the_charge() {
 /// by one a tick and never rises.
 #[test]
 fn work_that_is_interrupted_pays_once() {
-    let mut desk = opened(&[10, 2, 3], 2).ask(1, 3, 20).unwrap();
+    let mut desk = opened(&[10, 2, 3, 10], 2).ask(1, 3, 20).unwrap();
     let mut names = Vec::new();
     for tick in 0..12 {
         if tick == 5 {
@@ -165,7 +165,7 @@ fn work_that_is_interrupted_pays_once() {
 
 #[test]
 fn a_rested_piece_and_an_ended_job_give_the_charge_back() {
-    let full = opened(&[4, 3, 0], 1);
+    let full = opened(&[4, 3, 0, 4], 1);
     assert_eq!(full.ask(1, 3, 4).err(), Some(6));
     let rested = full.rest(1).unwrap();
     assert_eq!(rested.feeds[0].owes, 0);
@@ -191,12 +191,12 @@ fn a_rested_piece_and_an_ended_job_give_the_charge_back() {
 /// 6 + 6.
 #[test]
 fn reasons_have_the_charge_in_each_part() {
-    let full = opened(&[4, 1, 0, 6, 2, 0], 1);
+    let full = opened(&[4, 1, 0, 4, 6, 2, 0, 6], 1);
     assert_eq!(full.why(1, 1, 6), overbooked(6, 0, 5, 2, -1));
     assert_eq!(full.why(1, 1, 7), overbooked(8, 0, 7, 2, -1));
     assert_eq!(full.why(1, 1, 12), overbooked(12, 0, 12, 2, -2));
     assert_eq!(full.why(1, 3, 4), overbooked(4, 0, 2, 4, -2));
-    let one = opened(&[10, 4, 0], 2).ask(5, 1, 10).unwrap();
+    let one = opened(&[10, 4, 0, 10], 2).ask(5, 1, 10).unwrap();
     assert_eq!(one.why(6, 1, 10), overbooked(10, 3, 6, 3, -2));
     assert_eq!(one.why(6, 4, 20), overbooked(20, 3, 12, 6, -1));
     assert_eq!(one.why(6, 3, 20), tightest(0, 20));
@@ -234,7 +234,7 @@ fn a_charge_and_as_much_work_more_are_alike() {
 #[test]
 fn what_is_owed_is_bounded_by_charged_work() {
     for charge in 0..=16 {
-        let mut desk = opened(&[40, 3, 0], charge).ask(1, 1, 40).unwrap();
+        let mut desk = opened(&[40, 3, 0, 40], charge).ask(1, 1, 40).unwrap();
         let charge = u64::from(charge);
         for (owed, good) in [
             (0, false),
@@ -255,7 +255,7 @@ fn what_is_owed_is_bounded_by_charged_work() {
 
 #[test]
 fn the_charge_of_a_state_in_order() {
-    let mut desk = opened(&[4, 1, 0], 0).rest(1).unwrap();
+    let mut desk = opened(&[4, 1, 0, 4], 0).rest(1).unwrap();
     for (charge, good) in [(0, true), (3, true), (4, false), (16, false), (17, false)] {
         desk.charge = charge;
         assert_eq!(desk.in_order(), good, "charge {charge}");
