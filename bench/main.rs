@@ -70,16 +70,17 @@ fn row(name: &str, library: f64, plain: f64) {
     println!("| {name} | {library:.0} | {plain:.0} | {:.2} |", library / plain);
 }
 
-/// Feeds with a round of 5,040, at half load.
-fn feeds(count: usize) -> Vec<u32> {
+/// Feeds with a round of 5,040, at half load, each layer due so many percent of its period before the next one comes.
+fn feeds(count: usize, early: u32) -> Vec<u32> {
     let periods = [48, 60, 80, 84, 90, 120, 126, 140, 144, 168, 180, 210, 240, 252, 280, 336];
-    (0..count).flat_map(|i| [periods[i], periods[i] / (2 * count as u32).max(1) + u32::from(count == 16), 0]).collect()
+    let work = |period: u32| period / (2 * count as u32).max(1) + u32::from(count == 16);
+    periods[..count].iter().flat_map(|&period| [period, work(period), 0, period - period * early / 100]).collect()
 }
 
 /// A desk with so many feeds and jobs, under a charge.
-fn with_jobs(feed_count: usize, jobs: u32, charge: u32) -> Desk {
-    let opened = Desk::open(&feeds(feed_count), 0, charge);
-    assert_eq!(opened.refusal, 0, "{feed_count} feeds, charge {charge}");
+fn with_jobs(feed_count: usize, jobs: u32, charge: u32, early: u32) -> Desk {
+    let opened = Desk::open(&feeds(feed_count, early), 0, charge);
+    assert_eq!(opened.refusal, 0, "{feed_count} feeds, charge {charge}, early {early}");
     let mut desk = opened.desk;
     for number in 1..=jobs {
         let answer = desk.ask(number, 20, 6_000 + 200 * number);
@@ -104,10 +105,11 @@ fn asking(state: &Desk, name: &str, work: u32, lead: u32, refusal: u32) {
     row(name, library, own);
 }
 
-fn calls(feed_count: usize, jobs: u32, charge: u32) {
-    let state = with_jobs(feed_count, jobs, charge);
+fn calls(feed_count: usize, jobs: u32, charge: u32, early: u32) {
+    let state = with_jobs(feed_count, jobs, charge, early);
     let under = if charge > 0 { format!(", charge {charge}") } else { String::new() };
-    let at = |what: &str| format!("{what}, {jobs} jobs, {feed_count} feeds{under}");
+    let due = if early > 0 { format!(", due {early} % early") } else { String::new() };
+    let at = |what: &str| format!("{what}, {jobs} jobs, {feed_count} feeds{under}{due}");
     asking(&state, &at("ask taken"), 10, 20_000, 0);
     asking(&state, &at("ask refused near"), 3, 2, 6);
     asking(&state, &at("ask refused far"), 30_000, 30_000 - 1, 6);
@@ -136,7 +138,7 @@ fn calls(feed_count: usize, jobs: u32, charge: u32) {
 /// 86,400 ticks with a request every 50, the answers compared; ticks a second of both.
 fn day() {
     let requests = |tick: u64| (tick as u32 / 50 % 60 + 1, 10 + tick as u32 % 30, 300 + tick as u32 % 4_000);
-    let mut one = Desk::open(&feeds(4), 0, 0).desk;
+    let mut one = Desk::open(&feeds(4, 0), 0, 0).desk;
     let mut two = one;
     let began = now();
     let mut named = Vec::new();
@@ -186,11 +188,11 @@ const RUNS: usize = 32;
 /// The ticks of long runs in the program itself, their lines with them, beside the plain desk that writes the same lines.
 fn runs(program: &str, jobs: u32) {
     let mut asks = String::new();
-    for feed in feeds(4).chunks(3) {
-        asks += &format!("feed {} {} {}\n", feed[0], feed[1], feed[2]);
+    for feed in feeds(4, 0).chunks(desk::NUMBERS_A_FEED) {
+        asks += &format!("feed {} {} {} {}\n", feed[0], feed[1], feed[2], feed[3]);
     }
     asks += "go 0 0\n";
-    let mut desk = Desk::open(&feeds(4), 0, 0).desk;
+    let mut desk = Desk::open(&feeds(4, 0), 0, 0).desk;
     for number in 1..=jobs {
         asks += &format!("ask {number} 900 65536\n");
         desk = desk.ask(number, 900, 65_536).desk;
@@ -215,51 +217,95 @@ fn runs(program: &str, jobs: u32) {
 }
 
 /// Feeds of one period and as many offsets, so that something is due at nearly every instant, and one of the longest
-/// period that wants this much.
-fn dense(count: u32, period: u32, rest: u32) -> Vec<u32> {
-    let mut list: Vec<u32> = (0..count).flat_map(|i| [period, 1, i]).collect();
-    list.extend([40_320, rest, 40_319]);
+/// period that wants this much, so many ticks before its next layer comes.
+fn dense(count: u32, period: u32, rest: u32, early: u32) -> Vec<u32> {
+    let mut list: Vec<u32> = (0..count).flat_map(|i| [period, 1, i, period]).collect();
+    list.extend([40_320, rest, 40_319, 40_320 - early]);
     list
 }
 
-/// Asks that look far and at many instants: the longest round behind the longest lead, lightly loaded and nearly full.
-fn slowest() {
-    let mut worst = (0.0, 0.0, String::new());
+/// Feeds that share out the ticks, each the one that those before it leave it, so that hardly any stretch has a tick to
+/// spare: layers wanted in that very tick, or else by the time that the next one comes. What is left goes to one of the
+/// longest period, due by this instant.
+fn shared_out(rest: u32, by: u32, early: bool) -> Vec<u32> {
+    let longer = [(16, 8), (32, 16), (64, 32), (128, 64), (384, 128), (384, 256), (1_152, 384), (1_152, 768)];
+    let shares = (1..8).map(|tick| (8, tick)).chain(longer);
+    let due = |period, lead| if early { lead } else { period };
+    let mut list: Vec<u32> = shares.flat_map(|(period, tick)| [period, 1, tick - 1, due(period, tick)]).collect();
+    list.extend([40_320, rest, 1_151, due(40_320, by)]);
+    list
+}
+
+/// Lists of feeds with the longest round, lightly loaded and nearly full, and what they are.
+fn long_rounds(early: bool) -> Vec<(String, Vec<u32>)> {
+    let mut lists = Vec::new();
     for (count, period) in [(0, 1), (1, 2), (3, 4), (7, 8), (14, 16), (15, 16), (15, 18), (15, 20)] {
         let free = 40_320 - 40_320 / period * count;
         for rest in [1, free / 2, free * 7 / 8, free - 64, free - 1, free] {
             let rest = rest.max(1);
-            let mut state = Desk::open(&dense(count, period, rest), 0, 0).desk;
-            for number in 1..=63 {
-                state = state.ask(number, 1, 65_536 - number).desk;
-            }
-            let began = now();
-            let answer = black_box(state).ask(900, 1, 65_536);
-            let library = (now() - began) / 1e6;
-            let mut other = state;
-            let began = now();
-            assert_eq!(plain::ask(&mut other, 900, 1, 65_536), answer.refusal);
-            let own = (now() - began) / 1e6;
-            if library > worst.0 {
-                let jobs = state.table.count;
-                let feeds = format!("{count} feeds of period {period} and one of 40,320 that wants {rest}");
-                worst = (library, own, format!("{feeds}, {jobs} jobs before it, answer {}", answer.refusal));
-            }
+            let name = format!("{count} feeds of period {period} and one of 40,320 that wants {rest}");
+            lists.push((name, dense(count, period, rest, early.into())));
         }
     }
-    let (library, own, name) = worst;
-    println!("\nThe slowest ask found: {library:.2} ms, plain {own:.2} ms, ratio {:.2} ({name}).", library / own);
+    for (rest, by) in [(1, 1_152), (18, 20_736), (35, 40_320)] {
+        let name = format!("15 feeds that share out the ticks and one of 40,320 that wants {rest}");
+        lists.push((name, shared_out(rest, by, early)));
+    }
+    // Full to the last tick, and due before it, some do not open.
+    lists.retain(|(_, list)| Desk::open(list, 0, 0).refusal == 0);
+    lists
+}
+
+/// The longer of two times of the library, each in ms with that of the plain desk and what was timed.
+fn slower(one: (f64, f64, String), other: (f64, f64, String)) -> (f64, f64, String) {
+    if other.0 > one.0 { other } else { one }
+}
+
+/// Asks and steps that look far and at many instants: the longest round, for an ask behind the longest lead.
+fn slowest(early: bool) {
+    let mut asks = (0.0, 0.0, String::new());
+    let mut steps = asks.clone();
+    for (name, list) in long_rounds(early) {
+        let mut state = Desk::open(&list, 0, 0).desk;
+        for number in 1..=63 {
+            state = state.ask(number, 1, 65_536 - number).desk;
+        }
+        let name = format!("{name}, {} jobs", state.table.count);
+        let began = now();
+        let answer = black_box(state).ask(900, 1, 65_536);
+        let library = (now() - began) / 1e6;
+        let mut other = state;
+        let began = now();
+        assert_eq!(plain::ask(&mut other, 900, 1, 65_536), answer.refusal);
+        let own = (now() - began) / 1e6;
+        asks = slower(asks, (library, own, format!("{name} before it, answer {}", answer.refusal)));
+        let began = now();
+        let step = black_box(state).step();
+        let library = (now() - began) / 1e6;
+        let mut other = state;
+        let began = now();
+        assert_eq!(plain::step(&mut other), (step.refusal, step.kind, step.number));
+        let own = (now() - began) / 1e6;
+        steps = slower(steps, (library, own, name));
+    }
+    let due = if early { ", layers due before the next" } else { "" };
+    for (call, (library, own, name)) in [("ask", asks), ("step", steps)] {
+        let ratio = library / own;
+        println!("\nThe slowest {call} found{due}: {library:.3} ms, plain {own:.3} ms, ratio {ratio:.2} ({name}).");
+    }
 }
 
 fn main() {
     println!("| call | library, ns | plain, ns | ratio |\n|---|---|---|---|");
     for feed_count in [0, 4, 16] {
         for jobs in [0, 16, 63] {
-            calls(feed_count, jobs, 0);
+            calls(feed_count, jobs, 0, 0);
         }
     }
-    calls(4, 16, 3);
-    let full = with_jobs(4, 64, 0);
+    calls(4, 16, 3, 0);
+    calls(4, 16, 0, 25);
+    calls(16, 16, 0, 25);
+    let full = with_jobs(4, 64, 0, 0);
     asking(&full, "ask with all places taken, 64 jobs, 4 feeds", 1, 1, 5);
     day();
     let program = std::env::args().nth(1).expect("usage: bench PROGRAM");
@@ -267,5 +313,6 @@ fn main() {
     for jobs in [0, 16, 64] {
         runs(&program, jobs);
     }
-    slowest();
+    slowest(false);
+    slowest(true);
 }

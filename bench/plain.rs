@@ -13,8 +13,13 @@ fn since(feed: &Feed, clock: u64) -> u64 {
     (clock + feed.period - feed.offset) % feed.period
 }
 
-fn first_due(feed: &Feed, clock: u64) -> u64 {
+fn next_release(feed: &Feed, clock: u64) -> u64 {
     clock + feed.period - since(feed, clock)
+}
+
+/// When the current piece is due; one has come.
+fn due(feed: &Feed, clock: u64) -> u64 {
+    clock - since(feed, clock) + feed.lead
 }
 
 fn feeds_of(desk: &Desk) -> &[Feed] {
@@ -38,7 +43,32 @@ fn round_of(feeds: &[Feed]) -> Option<u64> {
 }
 
 fn feed_within(feed: &Feed) -> bool {
-    (1..=LONGEST_PERIOD).contains(&feed.period) && (1..=LONGEST_PERIOD).contains(&feed.work) && feed.offset < feed.period
+    (1..=LONGEST_PERIOD).contains(&feed.period)
+        && (1..=LONGEST_PERIOD).contains(&feed.work)
+        && feed.offset < feed.period
+        && (1..=feed.period).contains(&feed.lead)
+}
+
+/// What the pieces want that come and are due within so many ticks, of feeds released together.
+fn demand(feeds: &[Feed], charge: u64, stretch: u64) -> u64 {
+    feeds.iter().map(|feed| (stretch + feed.period - feed.lead) / feed.period * (feed.work + charge)).sum()
+}
+
+/// Whether no stretch has fewer ticks than are wanted in it. Where every piece is due when the next one comes, the round
+/// decides. Else down from the round: where no more is wanted than there is, nor is it in any stretch down to that length.
+fn bears(feeds: &[Feed], charge: u64, round: u64) -> bool {
+    if feeds.iter().all(|feed| feed.lead == feed.period) {
+        return demand(feeds, charge, round) <= round;
+    }
+    let mut stretch = round;
+    while stretch > 0 {
+        let wanted = demand(feeds, charge, stretch);
+        if wanted > stretch {
+            return false;
+        }
+        stretch = wanted.min(stretch - 1);
+    }
+    true
 }
 
 fn feeds_in_order(desk: &Desk) -> bool {
@@ -53,10 +83,12 @@ fn feeds_in_order(desk: &Desk) -> bool {
         Some(round) => round,
         None => return false,
     };
-    let load: u64 = feeds.iter().map(|feed| (feed.work + desk.charge) * (round / feed.period)).sum();
-    let empty = |feed: &Feed| feed.period == 0 && feed.work == 0 && feed.offset == 0 && feed.owes == 0;
-    let piece = |feed: &Feed| feed.owes <= feed.work + desk.charge && (feed.owes == 0 || feed.offset <= desk.clock);
-    load <= round && desk.feeds.feeds[desk.feeds.count..].iter().all(empty) && feeds.iter().all(piece)
+    let empty = |feed: &Feed| *feed == Feed::default();
+    let current = |feed: &Feed| feed.offset <= desk.clock && since(feed, desk.clock) < feed.lead;
+    let piece = |feed: &Feed| feed.owes <= feed.work + desk.charge && (feed.owes == 0 || current(feed));
+    bears(feeds, desk.charge, round)
+        && desk.feeds.feeds[desk.feeds.count..].iter().all(empty)
+        && feeds.iter().all(piece)
 }
 
 fn jobs_in_order(desk: &Desk) -> bool {
@@ -86,8 +118,10 @@ fn owed_by(desk: &Desk, by: u64) -> u64 {
     let feeds: u64 = feeds_of(desk)
         .iter()
         .map(|feed| {
-            let due = first_due(feed, desk.clock);
-            if by < due { 0 } else { feed.owes + (feed.work + desk.charge) * ((by - due) / feed.period) }
+            let current = if feed.owes > 0 && due(feed, desk.clock) <= by { feed.owes } else { 0 };
+            let first = next_release(feed, desk.clock) + feed.lead;
+            let later = if by < first { 0 } else { (by - first) / feed.period + 1 };
+            current + (feed.work + desk.charge) * later
         })
         .sum();
     jobs + feeds
@@ -95,7 +129,7 @@ fn owed_by(desk: &Desk, by: u64) -> u64 {
 
 fn fits(desk: &Desk) -> bool {
     let jobs = jobs_of(desk).iter().map(|job| job.deadline).max().unwrap_or(0);
-    let feeds = feeds_of(desk).iter().map(|feed| first_due(feed, desk.clock)).max().unwrap_or(0);
+    let feeds = feeds_of(desk).iter().map(|feed| next_release(feed, desk.clock)).max().unwrap_or(0);
     let round = match round_of(feeds_of(desk)) {
         Some(round) => round,
         None => return false,
@@ -181,7 +215,7 @@ pub fn tick(desk: &mut Desk) -> (u32, u32, u32) {
         .iter()
         .enumerate()
         .filter(|(_, feed)| feed.owes > 0)
-        .map(|(i, feed)| (first_due(feed, clock), i))
+        .map(|(i, feed)| (due(feed, clock), i))
         .min();
     let named = match (job, feed) {
         (Some((due, number, at)), other) if other.map_or(true, |(d, _)| due <= d) => {
@@ -200,8 +234,10 @@ pub fn tick(desk: &mut Desk) -> (u32, u32, u32) {
     desk.clock += 1;
     let (clock, charge, count) = (desk.clock, desk.charge, desk.feeds.count);
     for feed in &mut desk.feeds.feeds[..count] {
-        if clock >= feed.offset && since(feed, clock) == 0 {
-            feed.owes = feed.work + charge;
+        match since(feed, clock) {
+            0 => feed.owes = feed.work + charge,
+            late if late >= feed.lead => feed.owes = 0,
+            _ => (),
         }
     }
     named
