@@ -236,6 +236,46 @@ fn shared_out(rest: u32, by: u32, early: bool) -> Vec<u32> {
     list
 }
 
+/// A feed of a list that a search for the longest walks of line 10 found: period, work and a deadline length.
+type Searched = (u32, u32, u32);
+
+/// Halves, quarters and so on, and what leaves one tick of the round.
+const HALVES: [Searched; 11] = [
+    (2, 1, 2),
+    (4, 1, 3),
+    (8, 1, 8),
+    (16, 1, 15),
+    (32, 1, 32),
+    (64, 1, 64),
+    (128, 1, 128),
+    (384, 1, 384),
+    (1_152, 1, 1_152),
+    (5_760, 24, 5_760),
+    (40_320, 6, 40_320),
+];
+
+/// One tick of the round is left: the longest walk that was found.
+const FIVE: [Searched; 5] = [(2, 1, 1), (3, 1, 2), (7, 1, 6), (45, 1, 43), (640, 1, 638)];
+
+/// No tick is left: the most work that a walk was found to be.
+const TEN: [Searched; 10] = [
+    (7, 1, 4),
+    (6, 1, 5),
+    (2, 1, 2),
+    (14, 1, 7),
+    (9, 1, 8),
+    (160, 1, 160),
+    (630, 1, 315),
+    (20_160, 1, 10_080),
+    (40_320, 1, 20_160),
+    (40_320, 1, 40_320),
+];
+
+fn searched(feeds: &[Searched], early: bool) -> Vec<u32> {
+    let due = |period, lead| if early { lead } else { period };
+    feeds.iter().flat_map(|&(period, work, lead)| [period, work, 0, due(period, lead)]).collect()
+}
+
 /// Lists of feeds with the longest round, lightly loaded and nearly full, and what they are.
 fn long_rounds(early: bool) -> Vec<(String, Vec<u32>)> {
     let mut lists = Vec::new();
@@ -251,6 +291,9 @@ fn long_rounds(early: bool) -> Vec<(String, Vec<u32>)> {
         let name = format!("15 feeds that share out the ticks and one of 40,320 that wants {rest}");
         lists.push((name, shared_out(rest, by, early)));
     }
+    lists.push(("halves and so on, one tick left".into(), searched(&HALVES, early)));
+    lists.push(("five feeds, one tick left".into(), searched(&FIVE, early)));
+    lists.push(("ten feeds, none left".into(), searched(&TEN, early)));
     // Full to the last tick, and due before it, some do not open.
     lists.retain(|(_, list)| Desk::open(list, 0, 0).refusal == 0);
     lists
@@ -265,8 +308,11 @@ fn slower(one: (f64, f64, String), other: (f64, f64, String)) -> (f64, f64, Stri
 fn slowest(early: bool) {
     let mut asks = (0.0, 0.0, String::new());
     let mut steps = asks.clone();
+    let mut opening: f64 = 0.0;
     for (name, list) in long_rounds(early) {
-        let mut state = Desk::open(&list, 0, 0).desk;
+        let began = now();
+        let mut state = black_box(Desk::open(&list, 0, 0)).desk;
+        opening = opening.max((now() - began) / 1e6);
         for number in 1..=63 {
             state = state.ask(number, 1, 65_536 - number).desk;
         }
@@ -289,6 +335,7 @@ fn slowest(early: bool) {
         steps = slower(steps, (library, own, name));
     }
     let due = if early { ", layers due before the next" } else { "" };
+    println!("\nThe slowest opening found{due}: {opening:.3} ms.");
     for (call, (library, own, name)) in [("ask", asks), ("step", steps)] {
         let ratio = library / own;
         println!("\nThe slowest {call} found{due}: {library:.3} ms, plain {own:.3} ms, ratio {ratio:.2} ({name}).");

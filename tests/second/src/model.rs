@@ -181,23 +181,54 @@ fn feed_within_limits(feed: &Feed) -> bool {
         && within(feed.lead, 1, feed.period)
 }
 
-/// Line 10: whether some stretch of ticks has fewer than the pieces want that come
-/// and are due in it, all feeds being released together at its beginning. No other
-/// offsets want more. Pieces are counted one by one as they fall due; in between
-/// the stretch grows and what is wanted does not. A stretch of L and a round more
-/// wants what L wants and what the round does, so none longer than the round need
-/// be looked at.
-fn too_much_is_wanted(feeds: &[Feed], charge: Length, round: Length) -> bool {
-    let mut dues: Vec<Length> = feeds.iter().map(|feed| feed.lead).collect();
-    let mut wanted = 0;
-    while let Some(stretch) = dues.iter().copied().min().filter(|due| *due <= round) {
-        for (due, feed) in dues.iter_mut().zip(feeds) {
-            if *due == stretch {
-                wanted += feed.charged_work(charge);
-                *due += feed.period;
+/// Line 10, by rehearsing: all feeds are released together, nothing else is there,
+/// and each tick goes to the piece that is due first. Where a stretch of ticks has
+/// fewer than the pieces want that come and are due in it, one of them is late
+/// however the ticks go; where none has, no other offsets want more, and this choice
+/// is late nowhere. At the round's end all pieces are due and all feeds are released
+/// together again, so what comes after it is what was before.
+fn is_late_together(feeds: &[Feed], charge: Length, round: Length) -> bool {
+    let mut owes = vec![0; feeds.len()];
+    let mut now = 0;
+    while now < round {
+        for (owes, feed) in owes
+            .iter_mut()
+            .zip(feeds)
+            .filter(|(_, feed)| now % feed.period == 0)
+        {
+            if *owes > 0 {
+                return true;
             }
+            *owes = feed.charged_work(charge);
         }
-        if wanted > stretch {
+        let next = feeds
+            .iter()
+            .map(|feed| now - now % feed.period + feed.period)
+            .min();
+        let next = next.unwrap_or(round);
+        if is_late_until(feeds, &mut owes, now, next) {
+            return true;
+        }
+        now = next;
+    }
+    owes.iter().any(|owes| *owes > 0)
+}
+
+/// Between two releases: whether a piece that gets ticks is late with its last.
+fn is_late_until(feeds: &[Feed], owes: &mut [Length], from: Instant, next: Instant) -> bool {
+    let due = |feed: &Feed| from - from % feed.period + feed.lead;
+    let mut now = from;
+    while now < next {
+        let ready = (0..feeds.len()).filter(|place| owes[*place] > 0);
+        let first = match ready.min_by_key(|place| due(&feeds[*place])) {
+            Some(first) => first,
+            None => return false,
+        };
+        let ticks = owes[first].min(next - now);
+        now += ticks;
+        owes[first] -= ticks;
+        let owing = owes[first] > 0;
+        if now > due(&feeds[first]) || (owing && now == due(&feeds[first])) {
             return true;
         }
     }
@@ -213,7 +244,7 @@ pub fn feeds_refusal(feeds: &[Feed], charge: Length) -> Option<Refusal> {
         Some(round) => round,
         None => return Some(ROUND_TOO_LONG),
     };
-    too_much_is_wanted(feeds, charge, round).then_some(LOAD_TOO_HIGH)
+    is_late_together(feeds, charge, round).then_some(LOAD_TOO_HIGH)
 }
 
 /// Opening: 12, 8, 3, 18, 2, 9, 10. (A refused opening's state is the default.)

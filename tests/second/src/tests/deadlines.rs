@@ -140,8 +140,8 @@ fn some_feeds(random: &mut Random, periods: &[u64]) -> Vec<Feed> {
     (0..many).map(feed).collect()
 }
 
-/// By the sum for every stretch up to three rounds, and by running the feeds released
-/// together for one.
+/// By the sum for every stretch up to three rounds, and tick by tick for one round of the
+/// step rule.
 #[test]
 fn line_10_agrees_with_two_other_ways() {
     let mut random = Random::of(20, 0);
@@ -154,7 +154,7 @@ fn line_10_agrees_with_two_other_ways() {
         let too_much = (1..=3 * round).any(|stretch| over(&stretch));
         let said = feeds_refusal(&feeds, charge);
         assert_eq!(said == Some(10), too_much, "{feeds:?} {charge}");
-        assert_eq!(is_late_together(&feeds, charge), too_much, "{feeds:?}");
+        assert_eq!(is_late_tick_by_tick(&feeds, charge), too_much, "{feeds:?}");
         for stretch in 1..=round {
             let next = wanted(&feeds, charge, stretch) + wanted(&feeds, charge, round);
             assert_eq!(wanted(&feeds, charge, stretch + round), next);
@@ -167,7 +167,7 @@ fn line_10_agrees_with_two_other_ways() {
 }
 
 /// Whether a piece is late in the first round of these feeds, released together.
-fn is_late_together(feeds: &[Feed], charge: Length) -> bool {
+fn is_late_tick_by_tick(feeds: &[Feed], charge: Length) -> bool {
     let together = |f: &Feed| feed(f.period, f.work, 0, f.lead, f.work + charge);
     let mut desk = Desk {
         charge,
