@@ -1,6 +1,6 @@
 // The feeds: the printers' layers that come again and again, each a plan and what its current piece still owes. How a lent
-// list of numbers is read as feeds (lines 12, 8, 2, 9 and 10 of the opening), the round, and the current pieces: what comes
-// at an instant, what is served, what is rested.
+// list of numbers is read as feeds (lines 12, 8, 2, 9 and 10 of the opening), the round, what stretches of ticks up to it want,
+// and the current pieces: what comes at an instant, what gives way, what is served, what is rested.
 // It must not know jobs, nor who is served.
 use answers::Refusal;
 use answers::Verdict;

@@ -43,7 +43,7 @@ pub record LessLoad (c d : Desk) : Type 0 where
   pub pieces : Pairs OwesNoMore (inUse (c .ledger .feeds)) (inUse (d .ledger .feeds))
   pub jobs : Each (λ j. Some (JobNoMore j) (live (d .ledger .table))) (live (c .ledger .table))
 
--- the same feeds, as they were lent: position by position the same period, work and offset
+-- the same feeds, as they were lent: position by position the same period, work, offset and deadline length
 unfoldable pub SameFeeds : Desk → Desk → Type 0
 SameFeeds c d = plansOf (inUse (c .ledger .feeds)) ≡ plansOf (inUse (d .ledger .feeds))
 
