@@ -7,13 +7,15 @@ use Prim.Native.Nat.{ℕ, _≤_, _<_}
 use native.Mathlib.Omega.{arith}
 use lib.ListN.{length}
 use borrow.Author.Tests.{not-false, leb-true, leb-false}
+use Rattle.lists.specs.Lists.{Each}
 use Rattle.lists.proofs.Tests.{both}
 use Rattle.ticks.specs.Ticks.{mostJob, jobLength, ticks}
 use Rattle.ticks.proofs.Tests.{from-one}
 use Rattle.feeds.specs.Feeds.{inUse}
 use Rattle.jobs.specs.declared.Job.{Job}
 use Rattle.jobs.specs.declared.Table.{Table}
-use Rattle.jobs.specs.Jobs.{mostJobs, tableOf, JobsIn, live}
+use Rattle.jobs.specs.Jobs.{mostJobs, tableOf, Tidy, JobsIn, live}
+use Rattle.jobs.specs.Figures.{Modest, Figured, figured}
 use Rattle.jobs.proofs.Numbers.{lacks-times}
 use Rattle.jobs.proofs.Places.{live-of, live-count, tidy-of, jobs-in-taken}
 use Rattle.edf.specs.Calls.{taking}
@@ -25,7 +27,9 @@ use Rattle.answers.proofs.Answers.{yes-first, yes-both, yes-is-not-no}
 use Rattle.ledger.specs.declared.Ledger.{Ledger}
 use Rattle.ledger.specs.State.{inOrder, Sized, InOrder, moved}
 use Rattle.ledger.specs.Books.{bookJob, bookAt, bookOf}
+use Rattle.ledger.proofs.Books.{book-of-figured}
 use Rattle.ledger.proofs.InOrder.{in-order}
+use Rattle.room.proofs.Owed.{jobs-modest}
 use Rattle.desk.specs.declared.Desk.{Desk}
 use Rattle.desk.specs.declared.Answer.{Answer}
 use Rattle.desk.specs.State.{book}
@@ -62,20 +66,27 @@ admissible d number work lead s e =
       space = leb-false _ _ (full .0);
     }
 
+-- the table takes a job that is asked for
+pub takes : (d : Desk) (j : Job) → Admissible d j
+    → Tidy (d .ledger .table) × (d .ledger .table .count < mostJobs) × Each Modest (live (d .ledger .table)) × Figured (live (d .ledger .table)) × Modest j
+takes d j a =
+    let order = in-order (d .ledger) (a .sized) (a .order) in
+    (order .tidyTable, a .space, jobs-modest (d .ledger) order, order .jobs .figures, omega (arith, a .job .owed .1, order .charge))
+
 -- with the job that is asked for the state is still in order, and its book is the book with that job
-module _ (d : Desk) (j : Job) (a : Admissible d j) (t : Table) (e : t ≡ tableOf (live (d .ledger .table) ++ (j ∷ []))) where
+module _ (d : Desk) (j : Job) (a : Admissible d j) (t : Table) (e : t ≡ tableOf (figured (live (d .ledger .table) ++ (j ∷ [])))) where
   abbrev l : Ledger
   l = d .ledger
 
   order : InOrder l
   order = in-order l (a .sized) (a .order)
 
-  taken-live : live t ≡ live (l .table) ++ (j ∷ [])
-  taken-live = ap live e ∙ live-of (live (l .table) ++ (j ∷ []))
+  taken-live : live t ≡ figured (live (l .table) ++ (j ∷ []))
+  taken-live = ap live e ∙ live-of (figured (live (l .table) ++ (j ∷ [])))
 
   pub taken-in-order : InOrder (moved (d .ledger) (d .ledger .clock) (d .ledger .feeds) t)
   taken-in-order =
-      let js : JobsIn (l .charge) (l .clock) (live (l .table) ++ (j ∷ []))
+      let js : JobsIn (l .charge) (l .clock) (figured (live (l .table) ++ (j ∷ [])))
       = jobs-in-taken (l .charge) (l .clock) (live (l .table)) j (order .jobs) (omega (arith, a .space, live-count (l .table) (order .tidyTable))) (a .job) (a .free) in
       record {
         clock = order .clock;
@@ -83,14 +94,14 @@ module _ (d : Desk) (j : Job) (a : Admissible d j) (t : Table) (e : t ≡ tableO
         feeds = order .feeds;
         jobs = subst (JobsIn (l .charge) (l .clock)) (sym taken-live) js;
         tidyFeeds = order .tidyFeeds;
-        tidyTable = subst Rattle.jobs.specs.Jobs.Tidy (sym e) (tidy-of (live (l .table) ++ (j ∷ [])) (js .few));
+        tidyTable = subst Tidy (sym e) (tidy-of (figured (live (l .table) ++ (j ∷ []))) (js .few));
       }
 
   pub taken-book : bookOf (moved (d .ledger) (d .ledger .clock) (d .ledger .feeds) t) ≡ with-job d j
   unfolding taking
   taken-book =
       ap (bookAt (l .charge) (l .clock) (inUse (l .feeds))) taken-live
-      ∙ (λ i. record { clock = l .clock .0; feeds = book d .feeds; jobs = jobs-append (live (l .table)) j i })
+      ∙ (λ i. record { clock = l .clock .0; feeds = book d .feeds; jobs = (book-of-figured (live (l .table) ++ (j ∷ [])) ∙ jobs-append (live (l .table)) j) i })
 
 module _ (d : Desk) (number work lead : ℕ) where
   -- an ask that a line stops

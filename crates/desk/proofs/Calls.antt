@@ -11,6 +11,9 @@ use Rattle.feeds.specs.Pieces.{rested}
 use Rattle.jobs.specs.declared.Job.{Job}
 use Rattle.jobs.specs.declared.Table.{Table}
 use Rattle.jobs.specs.Jobs.{tableOf, others, live}
+use Rattle.jobs.specs.Figures.{figured}
+use Rattle.jobs.proofs.Figures.{figured-own}
+use Rattle.edf.specs.Book as edf
 use Rattle.edf.specs.Calls.{taking, ending, resting}
 use Rattle.ledger.specs.declared.Ledger.{Ledger}
 use Rattle.ledger.specs.State.{moved, inOrder, InOrder}
@@ -33,15 +36,15 @@ use Rattle.desk.specs.State as desk
 use Rattle.desk.specs.Calls.{disorder, stepLines, stepOf}
 
 -- the jobs of other numbers
-others-read : (n : ℕ) (js : List Job) → others n js ≡ map jobOf (keep (λ j. not (eqb n (j .number))) (map bookJob js))
+others-read : (n : ℕ) (js : List Job) → map bookJob (others n js) ≡ keep (λ j. not (eqb n (j .number))) (map bookJob js)
 others-read n [] = refl
 others-read n (j ∷ js) = go (others-read n js) (not (eqb n (j .number)))
   where
-    go : others n js ≡ map jobOf (keep (λ k. not (eqb n (k .number))) (map bookJob js))
+    go : map bookJob (others n js) ≡ keep (λ k. not (eqb n (k .number))) (map bookJob js)
         → (b : Bool)
-        → cond b (j ∷ others n js) (others n js)
-        ≡ map jobOf (cond b (bookJob j ∷ keep (λ k. not (eqb n (k .number))) (map bookJob js)) (keep (λ k. not (eqb n (k .number))) (map bookJob js)))
-    go e true = ap (j ∷_) e
+        → map bookJob (cond b (j ∷ others n js) (others n js))
+        ≡ cond b (bookJob j ∷ keep (λ k. not (eqb n (k .number))) (map bookJob js)) (keep (λ k. not (eqb n (k .number))) (map bookJob js))
+    go e true = ap (bookJob j ∷_) e
     go e false = e
 
 -- one more job
@@ -54,13 +57,17 @@ module _ (l : Ledger) (h : InOrder l) where
   feeds-back : l .feeds ≡ feedsOf (owingAs (bookFeeds (l .charge) 1 (inUse (l .feeds))) (inUse (l .feeds)))
   feeds-back = h .tidyFeeds .filled ∙ ap feedsOf (sym (owing-as-read (l .charge) 1 (inUse (l .feeds))))
 
-  jobs-back : l .table ≡ tableOf (map jobOf (map bookJob (live (l .table))))
-  jobs-back = h .tidyTable .filled ∙ ap tableOf (sym (jobs-of-book (live (l .table))))
+  jobs-back : l .table ≡ tableOf (figured (map jobOf (map bookJob (live (l .table)))))
+  jobs-back = h .tidyTable .filled ∙ ap tableOf (sym (jobs-of-book (live (l .table)) ∙ figured-own (live (l .table)) (h .jobs .figures)))
+
+  -- jobs with their figures are written from their book
+  jobs-made : (t : Table) (js : List Job) (bs : List edf.Job) → t ≡ tableOf (figured js) → map bookJob js ≡ bs → t ≡ tableOf (figured (map jobOf bs))
+  jobs-made t js bs e r = e ∙ ap tableOf (sym (jobs-of-book js) ∙ ap (λ ks. figured (map jobOf ks)) r)
 
   -- a job that is out
-  pub ended-ledger : (n : ℕ) (t : Table) → t ≡ tableOf (others n (live (l .table))) → moved l (l .clock) (l .feeds) t ≡ rewritten l (ending n (bookOf l))
+  pub ended-ledger : (n : ℕ) (t : Table) → t ≡ tableOf (figured (others n (live (l .table)))) → moved l (l .clock) (l .feeds) t ≡ rewritten l (ending n (bookOf l))
   unfolding ending
-  ended-ledger n t e = λ i. moved l (l .clock) (feeds-back i) ((e ∙ ap tableOf (others-read n (live (l .table)))) i)
+  ended-ledger n t e = λ i. moved l (l .clock) (feeds-back i) (jobs-made t (others n (live (l .table))) (ending n (bookOf l) .jobs) e (others-read n (live (l .table))) i)
 
   -- a piece that rests
   pub rested-ledger : (p : ℕ) (s : Feeds) → s ≡ feedsOf (rested p 1 (inUse (l .feeds))) → moved l (l .clock) s (l .table) ≡ rewritten l (resting p (bookOf l))
@@ -68,11 +75,10 @@ module _ (l : Ledger) (h : InOrder l) where
   rested-ledger p s e = λ i. moved l (l .clock) ((e ∙ ap feedsOf (rested-read (l .charge) p 1 (inUse (l .feeds)))) i) (jobs-back i)
 
   -- a job that is taken
-  pub taken-ledger : (j : Job) (t : Table) → t ≡ tableOf (live (l .table) ++ (j ∷ [])) → moved l (l .clock) (l .feeds) t ≡ rewritten l (taking (bookJob j) (bookOf l))
+  pub taken-ledger : (j : Job) (t : Table) → t ≡ tableOf (figured (live (l .table) ++ (j ∷ []))) → moved l (l .clock) (l .feeds) t ≡ rewritten l (taking (bookJob j) (bookOf l))
   unfolding taking
   taken-ledger j t e =
-      let jobs = e ∙ ap tableOf (sym (jobs-of-book (live (l .table) ++ (j ∷ []))) ∙ ap (map jobOf) (jobs-append (live (l .table)) j)) in
-      λ i. moved l (l .clock) (feeds-back i) (jobs i)
+      λ i. moved l (l .clock) (feeds-back i) (jobs-made t (live (l .table) ++ (j ∷ [])) (taking (bookJob j) (bookOf l) .jobs) e (jobs-append (live (l .table)) j) i)
 
 -- a step of a state that is not in order
 pub step-stopped : (d : Desk) → inOrder (d .ledger) ≡ false

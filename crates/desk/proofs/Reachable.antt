@@ -20,6 +20,8 @@ use Rattle.feeds.proofs.Passing.{in-use-of, tidy-of}
 use Rattle.feeds.proofs.Lines.{passing-none}
 use Rattle.jobs.specs.declared.Job.{Job}
 use Rattle.jobs.specs.Jobs.{mostJobs, noJob, live}
+use Rattle.jobs.specs.Figures.{figured}
+use Rattle.jobs.proofs.Figures.{length-figured}
 use Rattle.jobs.proofs.Places.{live-count}
 use Rattle.jobs.proofs.Places as jobs
 use Rattle.edf.specs.Book as edf
@@ -48,7 +50,7 @@ rewritten-sized l b o few =
     let fs = inUse (l .feeds) in
     record {
       feeds = length-filled mostFeeds noFeed (owingAs (b .feeds) fs) (omega (arith, length-owing-as (b .feeds) fs, o .feeds .passing .few));
-      jobs = length-filled mostJobs noJob (map jobOf (b .jobs)) (omega arith);
+      jobs = length-filled mostJobs noJob (figured (map jobOf (b .jobs))) (omega (arith, length-figured (map jobOf (b .jobs))));
     }
 
 -- a state that a book can be written into, which is then in order and read as that book
@@ -178,7 +180,7 @@ laid-in-order fs c clock p z low l =
       clock = l;
       charge = low;
       feeds = subst (FeedsIn c clock) (sym (in-use-of fs)) (record { passing = p; pieces = pieces });
-      jobs = record { few = omega arith; each = tt; once = λ n. omega arith };
+      jobs = record { few = omega arith; each = tt; once = λ n. omega arith; figures = tt };
       tidyFeeds = tidy-of fs (p .few);
       tidyTable = jobs.tidy-of [] (omega arith);
     }

@@ -10,7 +10,7 @@ use Rattle.ticks.specs.declared.Length.{Length}
 use Rattle.ticks.specs.Ticks.{jobLength, within, ticks, plus}
 use Rattle.jobs.specs.declared.Job.{Job}
 use Rattle.jobs.specs.declared.Table.{Table}
-use Rattle.jobs.specs.Jobs.{mostJobs, noJob, lacks, times, JobIn, live}
+use Rattle.jobs.specs.Jobs.{mostJobs, noJob, job, lacks, times, JobIn, live}
 use Rattle.edf.specs.Book.{Book}
 use Rattle.edf.specs.Fits.{Fits}
 use Rattle.edf.specs.Calls.{taking}
@@ -46,8 +46,7 @@ askLines d number work lead =
 
 -- the job that is asked for: it owes its work and the desk's charge
 abbrev pub requested : Desk → ℕ → ℕ → ℕ → Job
-requested d number work lead =
-    record { number = number; owed = ticks (work + d .ledger .charge .0); deadline = plus (d .ledger .clock) (ticks lead) }
+requested d number work lead = job number (ticks (work + d .ledger .charge .0)) (plus (d .ledger .clock) (ticks lead))
 
 -- the request as lines 13 and 1 to 5 leave it
 unfoldable pub requestOf : Desk → ℕ → ℕ → ℕ → Request

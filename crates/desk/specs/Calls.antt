@@ -60,7 +60,7 @@ restLines d position = disorder d ∷ line (eqb (owesAt position 1 (inUse (d .le
 unfoldable pub restOf : Desk → ℕ → Answer
 restOf d position = answered (restLines d position) (rewritten d (resting position (book d))) d
 
--- a buffer shorter than three numbers a live job (11)
+-- a buffer shorter than four numbers a live job (11)
 abbrev pub listLines : Desk → ℕ → List Line
 listLines d size = disorder d ∷ line (ltb size (numbersAJob * d .ledger .table .count)) ShortBuffer ∷ []
 

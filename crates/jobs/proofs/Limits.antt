@@ -12,7 +12,8 @@ use Rattle.ticks.proofs.Tests.{from-one, from-one-made}
 use Rattle.lists.proofs.Places.{each-of-every, every-of-each}
 use Rattle.jobs.specs.declared.Job.{Job}
 use Rattle.jobs.specs.declared.Table.{Table}
-use Rattle.jobs.specs.Jobs.{jobIn, JobIn, unusedJob, noJob, tableIn, TableIn}
+use Rattle.jobs.specs.Jobs.{jobIn, JobIn, unusedJob, noJob, live, tableIn, TableIn}
+use Rattle.jobs.specs.Figures.{figureIn, figureAgrees}
 use Rattle.jobs.proofs.Numbers.{distinct-once, once-distinct}
 
 pub job-in : (charge : Length) (clock : Instant) (j : Job) → jobIn charge clock j ≡ true → JobIn charge clock j
@@ -49,14 +50,18 @@ unused-job j h =
     let n = eqb-true (j .number) 0 (t .0) in
     let o = eqb-true (j .owed .0) 0 (t .1 .0) in
     let d = eqb-true (j .deadline .0) 0 (t .1 .1 .0) in
-    λ i. record { number = n i; owed = ticks (o i); deadline = instant (d i) }
+    let f = eqb-true (j .figure .0) 0 (t .1 .1 .1 .0) in
+    λ i. record { number = n i; owed = ticks (o i); deadline = instant (d i); figure = ticks (f i) }
 
 pub unused-job-made : (j : Job) → j ≡ noJob → unusedJob j ≡ true
 unfolding unusedJob
 unused-job-made j h =
     all-of-made _ (
       eq-eqb _ _ (ap (λ k. k .number) h),
-      (eq-eqb _ _ (ap (λ k. k .owed .0) h), (eq-eqb _ _ (ap (λ k. k .deadline .0) h), tt)),
+      (
+        eq-eqb _ _ (ap (λ k. k .owed .0) h),
+        (eq-eqb _ _ (ap (λ k. k .deadline .0) h), (eq-eqb _ _ (ap (λ k. k .figure .0) h), tt)),
+      ),
     )
 
 -- a table in order, as facts
@@ -68,7 +73,8 @@ table-in charge clock s h =
       few = leb-true _ _ (t .0);
       each = each-of-every (jobIn charge clock) (JobIn charge clock) (job-in charge clock) _ (t .1 .0);
       once = distinct-once _ (t .1 .1 .0);
-      unused = each-of-every unusedJob (λ j. j ≡ noJob) unused-job _ (t .1 .1 .1 .0);
+      figures = each-of-every (figureAgrees (live s)) (λ j. j .figure .0 ≡ figureIn (live s) j) (λ j. eqb-true _ _) _ (t .1 .1 .1 .0);
+      unused = each-of-every unusedJob (λ j. j ≡ noJob) unused-job _ (t .1 .1 .1 .1 .0);
     }
 
 pub table-in-made : (charge : Length) (clock : Instant) (s : Table) → TableIn charge clock s → tableIn charge clock s ≡ true
@@ -80,7 +86,10 @@ table-in-made charge clock s h =
         every-of-each (jobIn charge clock) (JobIn charge clock) (job-in-made charge clock) _ (h .each),
         (
           once-distinct _ (h .once),
-          (every-of-each unusedJob (λ j. j ≡ noJob) unused-job-made _ (h .unused), tt),
+          (
+            every-of-each (figureAgrees (live s)) (λ j. j .figure .0 ≡ figureIn (live s) j) (λ j. eq-eqb _ _) _ (h .figures),
+            (every-of-each unusedJob (λ j. j ≡ noJob) unused-job-made _ (h .unused), tt),
+          ),
         ),
       ),
     )

@@ -3,19 +3,23 @@ use mathlib.Core.Path.{_≡_, refl, sym, ap, subst, _∙_}
 use mathlib.Core.Bool.{Bool, true, false}
 use lib.Dec.{eqb}
 use borrow.Author.Tests.{eqb-true}
-use mathlib.Core.List.{List, [], _∷_, _++_}
+use mathlib.Core.List.{List, [], _∷_, _++_, map}
 use Prim.Native.Nat.{ℕ, _+_, _-_, _≤_, _<_}
 use native.Mathlib.Omega.{arith}
-use lib.ListN.{length, getD, take, drop, set, length-append, length-set}
-use lib.Seq.{length-take-le, getD-take, paste}
+use lib.ListN.{length, getD, take, drop, set, length-append, length-set, length-map}
+use lib.Seq.{length-take-le, getD-take, getD-set-same, paste}
 use Rattle.ticks.specs.declared.Instant.{Instant}
 use Rattle.ticks.specs.declared.Length.{Length}
 use Rattle.lists.specs.Lists.{Each, filled, bit}
-use Rattle.lists.proofs.Places.{filled-more, filled-of-unused, filled-without, length-without, take-filled, length-filled, filled-set, unused-of-filled}
+use Rattle.lists.proofs.Places.{filled-more, filled-of-unused, filled-without, length-without, take-filled, length-filled, filled-set, unused-of-filled, changed, changed-all}
 use Rattle.lists.proofs.Lists.{each-append, total-append}
 use Rattle.jobs.specs.declared.Job.{Job}
 use Rattle.jobs.specs.declared.Table.{Table}
 use Rattle.jobs.specs.Jobs.{noJob, mostJobs, live, tableOf, Tidy, times, JobIn, TableIn, JobsIn}
+use Rattle.jobs.specs.Served.{lessJob, owingLess}
+use Rattle.jobs.specs.Figures.{owedBy, figured}
+use Rattle.jobs.proofs.Figures.{by, figured-stores, figured-out, length-figured, times-figured, each-figured}
+use Rattle.lists.proofs.Maps.{out, out-set, getD-mapped}
 
 -- a table whose unused places are all zero is tidy
 pub tidy :
@@ -85,28 +89,78 @@ one-changed t at j k h =
     (λ i. set (k .filled i .jobs) at j) ∙ filled-set mostJobs noJob (live t) at j (omega arith) in
     λ i. record { count = count i; jobs = places i }
 
+-- each job is another
+pub all-changed :
+    (t r : Table) (h : Job → Job) (i : ℕ) → Tidy t → r .count ≡ t .count →
+    r .jobs ≡ filled mostJobs noJob (changed h i (live t)) → t .count ≤ i → r ≡ tableOf (map h (live t))
+all-changed t r h i k c e l =
+    let many = live-count t k in
+    let count : r .count ≡ length (map h (live t)) = c ∙ sym many ∙ sym (length-map (live t) h) in
+    let places : r .jobs ≡ filled mostJobs noJob (map h (live t)) = e ∙ ap (filled mostJobs noJob) (changed-all h i (live t) (omega arith)) in
+    λ n. record { count = count n; jobs = places n }
+
+-- the table whose job at a place has so many ticks fewer to get
+module _ (t : Table) (k : Tidy t) (at m : ℕ) (h : at < t .count) where
+  pub less-count : tableOf (figured (owingLess at m (live t))) .count ≡ t .count
+  less-count = length-figured (owingLess at m (live t)) ∙ length-set (live t) at (lessJob m (getD (live t) at noJob)) ∙ live-count t k
+
+  pub less-tidy : Tidy (tableOf (figured (owingLess at m (live t))))
+  less-tidy = tidy-of (figured (owingLess at m (live t))) (omega (arith, less-count, k .few))
+
+  place : at < length (owingLess at m (live t))
+  place = omega (arith, length-set (live t) at (lessJob m (getD (live t) at noJob)), live-count t k, h)
+
+  owed : getD (owingLess at m (live t)) at noJob .owed .0 ≡ getD (live t) at noJob .owed .0 - m
+  owed = ap (λ j. j .owed .0) (getD-set-same (live t) at (lessJob m (getD (live t) at noJob)) noJob (omega (arith, live-count t k, h)))
+
+  -- what the job then owes, at its place of the array
+  pub less-owes : getD (tableOf (figured (owingLess at m (live t))) .jobs) at noJob .owed .0 ≡ getD (live t) at noJob .owed .0 - m
+  less-owes =
+      let js = owingLess at m (live t) in
+      ap (λ j. j .owed .0)
+      (sym (live-at (tableOf (figured js)) at (omega (arith, less-count, h)))
+      ∙ ap (λ l. getD l at noJob) (live-of (figured js))
+      ∙ getD-mapped (by (λ D. owedBy D js)) at noJob noJob js place)
+      ∙ owed
+
+  -- nothing is left of what it owed: without it the others show what they owe
+  pub spent-leaves : getD (live t) at noJob .owed .0 ≤ m → tableOf (out at (live (tableOf (figured (owingLess at m (live t)))))) ≡ tableOf (figured (out at (live t)))
+  spent-leaves e =
+      let js = owingLess at m (live t) in
+      ap (λ l. tableOf (out at l)) (live-of (figured js))
+      ∙ ap tableOf (figured-out at js place (omega (arith, owed, e)) ∙ ap figured (out-set at (lessJob m (getD (live t) at noJob)) (live t)))
+
 -- a table in order, as a list of jobs
 pub jobs-in : (charge : Length) (clock : Instant) (t : Table) → length (t .jobs) ≡ mostJobs → TableIn charge clock t → JobsIn charge clock (live t)
 jobs-in charge clock t l h =
     let many = live-count t (tidy-in charge clock t l h) in
-    record { few = omega (arith, h .few); each = h .each; once = h .once }
+    record { few = omega (arith, h .few); each = h .each; once = h .once; figures = h .figures }
 
 pub jobs-in-table : (charge : Length) (clock : Instant) (js : List Job) → JobsIn charge clock js → TableIn charge clock (tableOf js)
 jobs-in-table charge clock js h =
     let p : JobsIn charge clock (live (tableOf js)) = subst (JobsIn charge clock) (sym (live-of js)) h in
-    record { few = h .few; each = p .each; once = p .once; unused = unused-of-filled mostJobs noJob js }
+    record { few = h .few; each = p .each; once = p .once; figures = p .figures; unused = unused-of-filled mostJobs noJob js }
+
+-- jobs in order but for their figures, each with its figure done afresh
+pub jobs-in-figured : (charge : Length) (clock : Instant) (js : List Job) → length js ≤ mostJobs → Each (JobIn charge clock) js
+    → ((n : ℕ) → times n js ≤ 1) → JobsIn charge clock (figured js)
+jobs-in-figured charge clock js few each once =
+    record {
+      few = omega (arith, length-figured js);
+      each = each-figured (JobIn charge clock) (λ j n i. record { number = i .number; owed = i .owed; ahead = i .ahead; near = i .near; within = i .within }) js each;
+      once = λ n. omega (arith, times-figured n js, once n);
+      figures = figured-stores js;
+    }
 
 -- one more job in order, under a number that no live job has
 pub jobs-in-taken :
     (charge : Length) (clock : Instant) (js : List Job) (j : Job) → JobsIn charge clock js → length js < mostJobs → JobIn charge clock j →
-    times (j .number) js ≡ 0 → JobsIn charge clock (js ++ (j ∷ []))
+    times (j .number) js ≡ 0 → JobsIn charge clock (figured (js ++ (j ∷ [])))
 jobs-in-taken charge clock js j h l i free =
     let more : length (js ++ (j ∷ [])) ≡ length js + 1 = length-append js (j ∷ []) in
-    record {
-      few = omega arith;
-      each = each-append (JobIn charge clock) js (j ∷ []) (h .each) (i, tt);
-      once = λ n. go n (eqb n (j .number)) refl;
-    }
+    jobs-in-figured charge clock (js ++ (j ∷ [])) (omega arith)
+    (each-append (JobIn charge clock) js (j ∷ []) (h .each) (i, tt))
+    (λ n. go n (eqb n (j .number)) refl)
   where
     go : (n : ℕ) (b : Bool) → eqb n (j .number) ≡ b → times n (js ++ (j ∷ [])) ≤ 1
     go n true e =

@@ -10,10 +10,10 @@ use borrow.Author.Tests.{lt-ltb, le-ltb}
 use Rattle.lists.specs.Lists.{bit, eq, Each}
 use Rattle.lists.proofs.Tests.{eq-refl}
 use Rattle.lists.proofs.Lists.{total-keep-le, total-map}
-use Rattle.ticks.specs.Ticks.{ticks, less}
+use Rattle.ticks.specs.Ticks.{ticks}
 use Rattle.jobs.specs.declared.Job.{Job}
 use Rattle.jobs.specs.Jobs.{noJob, times, FoundAt}
-use Rattle.jobs.specs.Served.{Owing, servedJob, served}
+use Rattle.jobs.specs.Served.{Owing, lessJob, owingLess, servedJob, served}
 
 -- a job of another number stays as it is
 past : (n : ℕ) (j : Job) (js : List Job) → eq n (j .number) ≡ 0 → Owing j → served n (j ∷ js) ≡ j ∷ served n js
@@ -21,7 +21,7 @@ past n j js none o =
     let z : j .owed .0 - eq n (j .number) ≡ j .owed .0 = omega arith in
     let test : ltb 0 (j .owed .0 - eq n (j .number)) ≡ true = ap (ltb 0) z ∙ lt-ltb 0 (j .owed .0) o in
     ap (λ b. cond b (servedJob n j ∷ served n js) (served n js)) test
-    ∙ (λ i. record { number = j .number; owed = ticks (z i); deadline = j .deadline } ∷ served n js)
+    ∙ (λ i. record { number = j .number; owed = ticks (z i); deadline = j .deadline; figure = j .figure } ∷ served n js)
 
 -- jobs of other numbers stay as they are
 pub served-others : (n : ℕ) (js : List Job) → times n js ≡ 0 → Each Owing js → served n js ≡ js
@@ -47,19 +47,16 @@ served-leaves n (suc m) (j ∷ js) f t o l =
     let e : suc m + 1 ≡ suc (m + 1) = omega arith in
     rw e (past n j js (omega (arith, f .first)) (o .0) ∙ ap (j ∷_) (served-leaves n m js (later f) (omega arith) (o .1) l))
 
-abbrev pub oneLess : Job → Job
-oneLess j = record { number = j .number; owed = less (j .owed) (ticks 1); deadline = j .deadline }
-
 -- otherwise it has one tick less to get
 pub served-stays :
     (n m : ℕ) (js : List Job) → FoundAt n m js → times n js ≤ 1 → Each Owing js → 1 < getD js m noJob .owed .0 →
-    served n js ≡ set js m (oneLess (getD js m noJob))
+    served n js ≡ owingLess m 1 js
 unfolding eq
 served-stays n m [] f t o l = absurd (omega (arith, f .inside))
 served-stays n zero (j ∷ js) f t o l =
     let one : eq n (j .number) ≡ 1 = ap (eq n) (f .number) ∙ eq-refl n in
     ap (λ b. cond b (servedJob n j ∷ served n js) (served n js)) (lt-ltb 0 (j .owed .0 - eq n (j .number)) (omega arith))
-    ∙ (λ i. record { number = j .number; owed = ticks (j .owed .0 - one i); deadline = j .deadline } ∷ served-others n js (omega arith) (o .1) i)
+    ∙ (λ i. lessJob (one i) j ∷ served-others n js (omega arith) (o .1) i)
 served-stays n (suc m) (j ∷ js) f t o l =
     past n j js (omega (arith, f .first)) (o .0) ∙ ap (j ∷_) (served-stays n m js (later f) (omega arith) (o .1) l)
 

@@ -13,6 +13,7 @@ use Rattle.jobs.specs.declared.Job.{Job}
 use Rattle.jobs.specs.declared.Table.{Table}
 use Rattle.jobs.specs.declared.Found.{Found}
 use Rattle.jobs.specs.declared.Found.the-variants.{At, Nothing}
+use Rattle.jobs.specs.Figures.{figureAgrees, Figured}
 
 -- as many live jobs as there are places
 abbrev pub mostJobs : ℕ
@@ -20,15 +21,15 @@ mostJobs = 64
 
 -- as many numbers as the list call writes of a job
 abbrev pub numbersAJob : ℕ
-numbersAJob = 3
+numbersAJob = 4
 
 -- a place that no job has
 abbrev pub noJob : Job
-noJob = record { number = 0; owed = ticks 0; deadline = instant 0 }
+noJob = record { number = 0; owed = ticks 0; deadline = instant 0; figure = ticks 0 }
 
--- a job of this number that owes so much by then
+-- a job of this number that owes so much by then, before any table gave it its figure
 abbrev pub job : ℕ → Length → Instant → Job
-job number owed deadline = record { number = number; owed = owed; deadline = deadline }
+job number owed deadline = record { number = number; owed = owed; deadline = deadline; figure = ticks 0 }
 
 -- the live jobs, in the order of their yes
 abbrev pub live : Table → List Job
@@ -87,16 +88,18 @@ pub record JobIn (charge : Length) (clock : Instant) (j : Job) : Type 0 where
 
 -- an unused place is all zero
 unfoldable pub unusedJob : Job → Bool
-unusedJob j = allOf (eqb (j .number) 0 ∷ eqb (j .owed .0) 0 ∷ eqb (j .deadline .0) 0 ∷ [])
+unusedJob j =
+    allOf (eqb (j .number) 0 ∷ eqb (j .owed .0) 0 ∷ eqb (j .deadline .0) 0 ∷ eqb (j .figure .0) 0 ∷ [])
 
--- the jobs of a state in order: at most 64; each in order at the clock's instant; no number twice; the unused places
--- all zero
+-- the jobs of a state in order: at most 64; each in order at the clock's instant; no number twice; each figure the sum done
+-- afresh; the unused places all zero
 unfoldable pub tableIn : Length → Instant → Table → Bool
 tableIn charge clock t =
     allOf
     (leb (t .count) mostJobs
     ∷ every (jobIn charge clock) (live t)
     ∷ distinct (live t)
+    ∷ every (figureAgrees (live t)) (live t)
     ∷ every unusedJob (drop (t .count) (t .jobs))
     ∷ [])
 
@@ -105,6 +108,7 @@ pub record TableIn (charge : Length) (clock : Instant) (t : Table) : Type 0 wher
   pub few : t .count ≤ mostJobs
   pub each : Each (JobIn charge clock) (live t)
   pub once : (n : ℕ) → times n (live t) ≤ 1
+  pub figures : Figured (live t)
   pub unused : Each (λ j. j ≡ noJob) (drop (t .count) (t .jobs))
 
 -- the same of a list of jobs
@@ -112,6 +116,7 @@ pub record JobsIn (charge : Length) (clock : Instant) (js : List Job) : Type 0 w
   pub few : length js ≤ mostJobs
   pub each : Each (JobIn charge clock) js
   pub once : (n : ℕ) → times n js ≤ 1
+  pub figures : Figured js
 
 -- the jobs with another number
 abbrev pub others : ℕ → List Job → List Job

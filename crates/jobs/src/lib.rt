@@ -1,18 +1,21 @@
-// The live jobs: what each still owes and by when, in a table in the order of their yes. Look-up by number, taking one
-// more, taking one out, serving one, and the part of a state in order that concerns jobs.
+// The live jobs: what each still owes and by when, in a table in the order of their yes, and beside each the figure on the
+// screen: what all live jobs due no later still owe together. Look-up by number, taking one more, taking one out, serving
+// one, and the part of a state in order that concerns jobs.
 // It must not know feeds, nor what fits, nor who is served.
 use ticks::Instant;
 use ticks::Length;
 ghost use mathlib.Core.Path.{_≡_};
 ghost use mathlib.Core.Bool.{not};
 ghost use mathlib.Core.List.{[], _∷_, _++_};
-ghost use Prim.Native.Nat.{ℕ, _+_, _≤_, _<_};
-ghost use lib.ListN.{take, drop};
+ghost use Prim.Native.Nat.{ℕ, _+_, _*_, _≤_, _<_, _^_};
+ghost use lib.ListN.{getD, take, drop};
+ghost use mathlib.Core.List.{map};
 ghost use Rattle.lists.specs.Lists.{every, Each};
-ghost use Rattle.ticks.specs.Ticks.{mostCharge};
+ghost use Rattle.ticks.specs.Ticks.{mostCharge, ticks};
 ghost use Rattle.jobs.specs.Jobs.{mostJobs, numbersAJob, noJob, job, jobIn, unusedJob, live, tableOf, Tidy, foundIn, distinct};
 ghost use Rattle.jobs.specs.Jobs.{tableIn, times, lacks, others};
-ghost use Rattle.jobs.specs.Served.{Owing, served};
+ghost use Rattle.jobs.specs.Figures.{owesBy, owedBy, mostOwed, Modest, showing, raised, lowered, figured, Figured, figureAgrees};
+ghost use Rattle.jobs.specs.Served.{Owing, owingLess, served};
 
 // A customer's export that was promised: it still owes `owed` ticks before the deadline.
 #[repr(C)]
@@ -20,6 +23,8 @@ pub struct Job {
     pub number: u32,
     pub owed: Length,
     pub deadline: Instant,
+    // What all live jobs due no later still owe together, itself included.
+    pub figure: Length,
 }
 
 // The live jobs stand at the front, in the order of their yes; the places after them are all zero.
@@ -38,8 +43,8 @@ pub enum Found {
 impl Job {
     // As many jobs as there are places.
     pub const MOST: usize = 64;
-    // As many numbers as the list call writes of a job: its number, what it owes and its deadline.
-    pub const NUMBERS: usize = 3;
+    // As many numbers as the list call writes of a job: its number, what it owes, its deadline and its figure.
+    pub const NUMBERS: usize = 4;
     // The lowest number that a job may have; the highest is the highest of 32 bits.
     pub const LOWEST: u32 = 1;
     // A place that no job has.
@@ -47,6 +52,7 @@ impl Job {
         number: 0,
         owed: Length::NONE,
         deadline: Instant::FIRST,
+        figure: Length::NONE,
     };
 
     pub fn most() -> usize
@@ -67,7 +73,7 @@ impl Job {
         Job::NONE
     }
 
-    // A job as it is taken: it owes all its work, and the charge.
+    // A job as it is asked for: it owes all its work, and the charge; it has its figure from the table that takes it.
     pub fn of(number: u32, owed: Length, deadline: Instant) -> Job
         ensures { λ r. ⌜ r ≡ job number owed deadline ⌝ }
     {
@@ -75,7 +81,42 @@ impl Job {
             number,
             owed,
             deadline,
+            figure: Length::NONE,
         }
+    }
+
+    // It counts from its deadline on.
+    pub fn owes_by(self, by: Instant) -> Length
+        ensures { λ r. ⌜ r ≡ ticks (owesBy (by .0) self) ⌝ }
+    {
+        if self.deadline.is_after(by) {
+            return Length::NONE;
+        }
+        self.owed
+    }
+
+    fn showing(self, figure: Length) -> Job
+        ensures { λ r. ⌜ r ≡ showing (figure .0) self ⌝ }
+    {
+        let mut job = self;
+        job.figure = figure;
+        job
+    }
+
+    // Another job is there too: this one shows it if it is due no later.
+    fn raised(self, other: Job) -> Job
+        requires { ⌜ self .figure .0 + owesBy (self .deadline .0) other < 2 ^ 64 ⌝ }
+        ensures { λ r. ⌜ r ≡ raised other self ⌝ }
+    {
+        self.showing(self.figure.and(other.owes_by(self.deadline)))
+    }
+
+    // Another job is there no more.
+    fn lowered(self, other: Job) -> Job
+        requires { ⌜ owesBy (self .deadline .0) other ≤ self .figure .0 ⌝ }
+        ensures { λ r. ⌜ r ≡ lowered other self ⌝ }
+    {
+        self.showing(self.figure.less(other.owes_by(self.deadline)))
     }
 
     // A live job that is in order at this instant, under this charge.
@@ -107,7 +148,10 @@ impl Job {
         if !self.owed.is_none() {
             return false;
         }
-        self.deadline.is_first()
+        if !self.deadline.is_first() {
+            return false;
+        }
+        self.figure.is_none()
     }
 }
 
@@ -190,7 +234,40 @@ impl Table {
         true
     }
 
-    // Whether any table that is handed in is in order at this instant, under this charge.
+    // What the live jobs due by an instant still owe together.
+    pub fn owed_by(self, by: Instant) -> Length
+        requires { ⌜ (self .count ≤ mostJobs) × Each Modest (live self) ⌝ }
+        ensures { λ r. ⌜ (r ≡ ticks (owedBy (by .0) (live self))) × (r .0 ≤ mostJobs * mostOwed) ⌝ }
+    {
+        let count = self.count;
+        let mut sum = 0;
+        for i in 0..count {
+            sum += self.jobs[i].owes_by(by).0;
+        }
+        Length(sum)
+    }
+
+    // Each figure is the sum done afresh. Both loops stand here too.
+    fn figures_agree(self) -> bool
+        requires { ⌜ (self .count ≤ mostJobs) × Each Modest (live self) ⌝ }
+        ensures { λ r. ⌜ r ≡ every (figureAgrees (live self)) (live self) ⌝ }
+    {
+        let count = self.count;
+        for i in 0..count {
+            let job = self.jobs[i];
+            let mut sum = 0;
+            for k in 0..count {
+                sum += self.jobs[k].owes_by(job.deadline).0;
+            }
+            if job.figure.0 != sum {
+                return false;
+            }
+        }
+        true
+    }
+
+    // Whether any table that is handed in is in order at this instant, under this charge. What each job owes is bounded
+    // before anything is added up.
     pub fn in_order(self, charge: Length, clock: Instant) -> bool
         requires { ⌜ charge .0 ≤ mostCharge ⌝ }
         ensures { λ r. ⌜ r ≡ tableIn charge clock self ⌝ }
@@ -204,22 +281,54 @@ impl Table {
         if !self.no_number_twice() {
             return false;
         }
+        if !self.figures_agree() {
+            return false;
+        }
         self.rest_unused()
     }
 
-    // One more job, behind the others.
+    // Those due no earlier than a job show it too.
+    fn raised(self, job: Job) -> Table
+        requires { ⌜ Tidy self × Each (λ j. j .figure .0 + owesBy (j .deadline .0) job < 2 ^ 64) (live self) ⌝ }
+        ensures { λ r. ⌜ r ≡ tableOf (map (raised job) (live self)) ⌝ }
+    {
+        let count = self.count;
+        let mut table = self;
+        for i in 0..count {
+            let other = self.jobs[i].raised(job);
+            table.jobs[i] = other;
+        }
+        table
+    }
+
+    // Those due no earlier than a job show it no more.
+    fn lowered(self, job: Job) -> Table
+        requires { ⌜ Tidy self × Each (λ j. owesBy (j .deadline .0) job ≤ j .figure .0) (live self) ⌝ }
+        ensures { λ r. ⌜ r ≡ tableOf (map (lowered job) (live self)) ⌝ }
+    {
+        let count = self.count;
+        let mut table = self;
+        for i in 0..count {
+            let other = self.jobs[i].lowered(job);
+            table.jobs[i] = other;
+        }
+        table
+    }
+
+    // One more job, behind the others. It shows what those due no later owe, and itself.
     pub fn taken(self, job: Job) -> Table
-        requires { ⌜ Tidy self × (self .count < mostJobs) ⌝ }
-        ensures { λ r. ⌜ r ≡ tableOf (live self ++ (job ∷ [])) ⌝ }
+        requires { ⌜ Tidy self × (self .count < mostJobs) × Each Modest (live self) × Figured (live self) × Modest job ⌝ }
+        ensures { λ r. ⌜ r ≡ tableOf (figured (live self ++ (job ∷ []))) ⌝ }
     {
         let at = self.count;
-        let mut table = self;
-        table.jobs[at] = job;
+        let figure = self.owed_by(job.deadline).and(job.owed);
+        let mut table = self.raised(job);
+        table.jobs[at] = job.showing(figure);
         table.count = at + 1;
         table
     }
 
-    // One job out; those behind it close up.
+    // One job out; those behind it close up. No figure changes.
     pub fn without(self, at: usize) -> Table
         requires { ⌜ Tidy self × (at < self .count) ⌝ }
         ensures { λ r. ⌜ r ≡ tableOf (take at (live self) ++ drop (at + 1) (live self)) ⌝ }
@@ -236,32 +345,45 @@ impl Table {
         table
     }
 
-    // The job of this number is out; those behind it close up.
+    // The job at a place has so many ticks fewer to get; it and those due no earlier show so many fewer.
+    fn owing_less(self, at: usize, by: Length) -> Table
+        requires { ⌜ Tidy self × (at < self .count) × Figured (live self) × (by .0 ≤ getD (live self) at noJob .owed .0) ⌝ }
+        ensures { λ r. ⌜ r ≡ tableOf (figured (owingLess at (by .0) (live self))) ⌝ }
+    {
+        let job = self.jobs[at];
+        let mut table = self.lowered(Job::of(job.number, by, job.deadline));
+        let mut left = table.jobs[at];
+        left.owed = job.owed.less(by);
+        table.jobs[at] = left;
+        table
+    }
+
+    // The job of this number is out, and with it all that it owed; those behind it close up.
     pub fn end(self, number: u32) -> Table
-        requires { ⌜ Tidy self × ((n : ℕ) → times n (live self) ≤ 1) ⌝ }
-        ensures { λ r. ⌜ r ≡ tableOf (others number (live self)) ⌝ }
+        requires { ⌜ Tidy self × Figured (live self) × ((n : ℕ) → times n (live self) ≤ 1) ⌝ }
+        ensures { λ r. ⌜ r ≡ tableOf (figured (others number (live self))) ⌝ }
     {
         match self.find(number) {
-            Found::At(at) => self.without(at),
+            Found::At(at) => {
+                let job = self.jobs[at];
+                self.owing_less(at, job.owed).without(at)
+            }
             Found::Nothing => self,
         }
     }
 
     // The job of this number has one tick less to get; it leaves with its last.
     pub fn serve(self, number: u32) -> Table
-        requires { ⌜ Tidy self × Each Owing (live self) × ((n : ℕ) → times n (live self) ≤ 1) ⌝ }
-        ensures { λ r. ⌜ r ≡ tableOf (served number (live self)) ⌝ }
+        requires { ⌜ Tidy self × Each Owing (live self) × Figured (live self) × ((n : ℕ) → times n (live self) ≤ 1) ⌝ }
+        ensures { λ r. ⌜ r ≡ tableOf (figured (served number (live self))) ⌝ }
     {
         match self.find(number) {
             Found::At(at) => {
-                let mut job = self.jobs[at];
-                let owed = job.owed.one_less();
-                if owed.is_none() {
-                    return self.without(at);
+                let table = self.owing_less(at, Length::of(1));
+                let job = table.jobs[at];
+                if job.owed.is_none() {
+                    return table.without(at);
                 }
-                job.owed = owed;
-                let mut table = self;
-                table.jobs[at] = job;
                 table
             }
             Found::Nothing => self,

@@ -1,6 +1,6 @@
 -- Reading a state as a book and writing a book into it undo one another.
 use mathlib.Core.Path.{_≡_, refl, sym, ap, _∙_}
-use mathlib.Core.List.{List, [], _∷_, map}
+use mathlib.Core.List.{List, [], _∷_, map, map-map, map-id}
 use Prim.Native.Nat.{ℕ, suc}
 use native.Mathlib.Omega.{arith}
 use lib.ListN.{length, getD, drop, length-map}
@@ -11,6 +11,8 @@ use Rattle.feeds.specs.Feeds.{owing, inUse, plansOf, feedsOf}
 use Rattle.feeds.proofs.Passing.{in-use-of}
 use Rattle.jobs.specs.declared.Job.{Job}
 use Rattle.jobs.specs.Jobs.{live, tableOf}
+use Rattle.jobs.specs.Figures.{owedBy, figured}
+use Rattle.jobs.proofs.Figures.{by, figured-own, figured-again}
 use Rattle.jobs.proofs.Places.{live-of}
 use Rattle.edf.specs.Book as edf
 use Rattle.answers.specs.declared.Who.{Who}
@@ -64,13 +66,16 @@ read-owing-as charge k (g ∷ gs) (f ∷ fs) p q =
     let rest = read-owing-as charge (suc k) gs fs (tail-same (g .position) k (edf.positions gs) (edf.positions (bookFeeds charge (suc k) fs)) p) (tail-same (g .plan) (bookPlan charge (f .plan)) (edf.plans gs) (edf.plans (bookFeeds charge (suc k) fs)) q) in
     λ i. record { position = sym at i; plan = sym plan i; owes = g .owes } ∷ rest i
 
-pub jobs-of-book : (js : List Job) → map jobOf (map bookJob js) ≡ js
-jobs-of-book [] = refl
-jobs-of-book (j ∷ js) = ap (j ∷_) (jobs-of-book js)
+-- jobs are written from their book with the figures done afresh
+pub jobs-of-book : (js : List Job) → figured (map jobOf (map bookJob js)) ≡ figured js
+jobs-of-book js = ap figured (map-map jobOf bookJob js) ∙ figured-again (λ D. 0) js
 
-pub book-of-jobs : (js : List edf.Job) → map bookJob (map jobOf js) ≡ js
-book-of-jobs [] = refl
-book-of-jobs (j ∷ js) = ap (j ∷_) (book-of-jobs js)
+-- and the book does not look at figures
+pub book-of-figured : (js : List Job) → map bookJob (figured js) ≡ map bookJob js
+book-of-figured js = map-map bookJob (by (λ D. owedBy D js)) js
+
+pub book-of-jobs : (js : List edf.Job) → map bookJob (figured (map jobOf js)) ≡ js
+book-of-jobs js = book-of-figured (map jobOf js) ∙ map-map bookJob jobOf js ∙ map-id js
 
 -- WRITTEN INTO THE STATE, A BOOK IS READ AS IT WAS
 pub book-of-rewritten : (l : Ledger) (b : edf.Book) → SameFeeds l b → bookOf (rewritten l b) ≡ b
@@ -78,15 +83,15 @@ book-of-rewritten l b s =
     let gs = owingAs (b .feeds) (inUse (l .feeds)) in
     let fs : bookFeeds (l .charge) 1 (inUse (feedsOf gs)) ≡ b .feeds
     = ap (bookFeeds (l .charge) 1) (in-use-of gs) ∙ read-owing-as (l .charge) 1 (b .feeds) (inUse (l .feeds)) (s .positions) (s .plans) in
-    let js : map bookJob (live (tableOf (map jobOf (b .jobs)))) ≡ b .jobs
-    = ap (map bookJob) (live-of (map jobOf (b .jobs))) ∙ book-of-jobs (b .jobs) in
+    let js : map bookJob (live (tableOf (figured (map jobOf (b .jobs))))) ≡ b .jobs
+    = ap (map bookJob) (live-of (figured (map jobOf (b .jobs)))) ∙ book-of-jobs (b .jobs) in
     λ i. record { clock = b .clock; feeds = fs i; jobs = js i }
 
 -- A STATE IS WRITTEN BACK FROM ITS OWN BOOK AS IT WAS
 pub rewritten-own : (l : Ledger) → InOrder l → rewritten l (bookOf l) ≡ l
 rewritten-own l h =
     let fs = ap feedsOf (owing-as-read (l .charge) 1 (inUse (l .feeds))) ∙ sym (h .tidyFeeds .filled) in
-    let js = ap tableOf (jobs-of-book (live (l .table))) ∙ sym (h .tidyTable .filled) in
+    let js = ap tableOf (jobs-of-book (live (l .table)) ∙ figured-own (live (l .table)) (h .jobs .figures)) ∙ sym (h .tidyTable .filled) in
     λ i. moved l (l .clock) (fs i) (js i)
 
 pub who-back : (w : edf.Who) → whoOf (whoIs w) ≡ w

@@ -12,7 +12,8 @@ use Rattle.plans.specs.Plans.{charged}
 use Rattle.feeds.specs.declared.Feed.{Feed}
 use Rattle.feeds.specs.Feeds.{owing, inUse, feedsOf}
 use Rattle.jobs.specs.declared.Job.{Job}
-use Rattle.jobs.specs.Jobs.{mostJobs, live, tableOf}
+use Rattle.jobs.specs.Jobs.{mostJobs, job, live, tableOf}
+use Rattle.jobs.specs.Figures.{figured}
 use Rattle.answers.specs.declared.Who.{Who}
 use Rattle.answers.specs.declared.Who.the-variants as who
 use Rattle.edf.specs.Book as edf
@@ -45,8 +46,9 @@ bookAt charge clock fs js = record { clock = clock .0; feeds = bookFeeds charge 
 abbrev pub bookOf : Ledger → edf.Book
 bookOf l = bookAt (l .charge) (l .clock) (inUse (l .feeds)) (live (l .table))
 
+-- a job of the book, before any table gave it its figure
 abbrev pub jobOf : edf.Job → Job
-jobOf j = record { number = j .number; owed = ticks (j .owes); deadline = instant (j .due) }
+jobOf j = job (j .number) (ticks (j .owes)) (instant (j .due))
 
 -- these feeds, owing what those of the book owe
 abbrev pub owingAs : List edf.Feed → List Feed → List Feed
@@ -54,10 +56,11 @@ owingAs [] fs = fs
 owingAs (g ∷ gs) [] = []
 owingAs (g ∷ gs) (f ∷ fs) = owing (ticks (g .owes)) f ∷ owingAs gs fs
 
--- the state written anew from a book: the clock, what is owed and the jobs are the book's, everything else stays
+-- the state written anew from a book: the clock, what is owed and the jobs are the book's, the figures done afresh;
+-- everything else stays
 abbrev pub rewritten : Ledger → edf.Book → Ledger
 rewritten l b =
-    moved l (instant (b .clock)) (feedsOf (owingAs (b .feeds) (inUse (l .feeds)))) (tableOf (map jobOf (b .jobs)))
+    moved l (instant (b .clock)) (feedsOf (owingAs (b .feeds) (inUse (l .feeds)))) (tableOf (figured (map jobOf (b .jobs))))
 
 -- whom a tick goes to, here and in the mathematics
 abbrev pub whoOf : Who → edf.Who

@@ -12,17 +12,17 @@ use Rattle.jobs.proofs.Places.{live-of, live-at, live-count, tidy-of}
 use Rattle.listing.specs.Order.{firstAt, without, orderOf, listOrder, wordsOf, words}
 use Rattle.listing.proofs.Order.{first-inside, without-length, order-more, order-none}
 
--- three numbers are written one after the other
-pub put-three :
-    (l : List ℕ) (at a b c : ℕ) → at + numbersAJob ≤ length l →
-    set (set (set l at a) (at + 1) b) (at + 2) c ≡ take at l ++ ((a ∷ b ∷ c ∷ []) ++ drop (at + numbersAJob) l)
-put-three l at a b c h =
+-- four numbers are written one after the other
+pub put-four :
+    (l : List ℕ) (at a b c d : ℕ) → at + numbersAJob ≤ length l →
+    set (set (set (set l at a) (at + 1) b) (at + 2) c) (at + 3) d ≡ take at l ++ ((a ∷ b ∷ c ∷ d ∷ []) ++ drop (at + numbersAJob) l)
+put-four l at a b c d h =
     let one : at + 1 ≡ suc at = omega arith in
     let two : at + 2 ≡ suc (suc at) = omega arith in
-    ap (λ m. set (set (set l at a) m b) (at + 2) c) one
-    ∙ ap (λ m. set (set (set l at a) (suc at) b) m c) two
-    ∙ sets-eq (a ∷ b ∷ c ∷ []) l at h
-    ∙ append-assoc (take at l) (a ∷ b ∷ c ∷ []) (drop (at + numbersAJob) l)
+    let three : at + 3 ≡ suc (suc (suc at)) = omega arith in
+    (λ i. set (set (set (set l at a) (one i) b) (two i) c) (three i) d)
+    ∙ sets-eq (a ∷ b ∷ c ∷ d ∷ []) l at h
+    ∙ append-assoc (take at l) (a ∷ b ∷ c ∷ d ∷ []) (drop (at + numbersAJob) l)
 
 words-append : (xs ys : List Job) → words (xs ++ ys) ≡ words xs ++ words ys
 words-append [] ys = refl

@@ -12,6 +12,7 @@ use borrow.Author.Tests.{leb-true}
 use Rattle.lists.specs.Lists.{Each, total}
 use Rattle.lists.proofs.Tests.{leb-elim, ltb-elim, eqb-elim, false-not-true}
 use Rattle.lists.proofs.Lists.{each-append, each-imp}
+use Rattle.lists.proofs.Maps.{total-out}
 use Rattle.lists.proofs.Places.{each-take, each-drop, each-getD, length-without, next-live, no-more-live}
 use Rattle.jobs.specs.declared.Job.{Job}
 use Rattle.jobs.specs.declared.Table.{Table}
@@ -96,14 +97,6 @@ first-each (j ∷ k ∷ ks) h =
 pub without-length : (at : ℕ) (js : List Job) → at < length js → length (without at js) ≡ length js - 1
 without-length at js h = length-without (length js) noJob js at h (omega arith)
 
--- one taken out and the others add up to all
-total-out : (f : Job → ℕ) (at : ℕ) (js : List Job) → at < length js → total f js ≡ f (getD js at noJob) + total f (without at js)
-total-out f at [] h = absurd (omega arith)
-total-out f zero (j ∷ js) h = refl
-total-out f (suc at) (j ∷ js) h =
-    let e : suc at + 1 ≡ suc (at + 1) = omega arith in
-    rw e (omega (arith, total-out f at js (omega arith)))
-
 pub order-more : (n : ℕ) (js : List Job) → orderOf (suc n) js ≡ getD js (firstAt js) noJob ∷ orderOf n (without (firstAt js) js)
 unfolding orderOf
 order-more n js = refl
@@ -123,7 +116,7 @@ order-total f zero [] h = refl
 order-total f zero (j ∷ js) h = absurd (omega arith)
 order-total f (suc n) js h =
     let at : firstAt js < length js = first-inside js (omega arith) in
-    omega (arith, total-out f (firstAt js) js at, order-total f n (without (firstAt js) js) (without-length (firstAt js) js at ∙ omega arith))
+    omega (arith, total-out f (firstAt js) noJob js at, order-total f n (without (firstAt js) js) (without-length (firstAt js) js at ∙ omega arith))
 
 each-out : (Q : Job → Type 0) (at : ℕ) (xs : List Job) → Each Q xs → Each Q (without at xs)
 each-out Q at xs q = each-append Q (take at xs) (drop (at + 1) xs) (each-take Q at xs q) (each-drop Q (at + 1) xs q)

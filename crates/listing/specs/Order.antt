@@ -32,9 +32,9 @@ orderOf (suc n) js = getD js (firstAt js) noJob ∷ orderOf n (without (firstAt 
 abbrev pub listOrder : List Job → List Job
 listOrder js = orderOf (length js) js
 
--- the numbers of a job: number, owed, deadline
+-- the numbers of a job: number, owed, deadline, figure
 abbrev pub wordsOf : Job → List ℕ
-wordsOf j = j .number ∷ j .owed .0 ∷ j .deadline .0 ∷ []
+wordsOf j = j .number ∷ j .owed .0 ∷ j .deadline .0 ∷ j .figure .0 ∷ []
 
 abbrev pub words : List Job → List ℕ
 words [] = []

@@ -72,6 +72,7 @@ fn put(buffer: &mut [u64], at: usize, job: Job)
     buffer[at] = job.number as u64;
     buffer[at + 1] = job.owed.0;
     buffer[at + 2] = job.deadline.0;
+    buffer[at + 3] = job.figure.0;
 }
 
 // The live jobs into the front of the buffer; the rest of it is untouched.

@@ -3,3 +3,4 @@ pub mod Lists
 pub mod Numbers
 pub mod Pairs
 pub mod Places
+pub mod Maps

@@ -19,6 +19,7 @@ use Rattle.feeds.specs.Lines.{feedsPass, feedsIn}
 use Rattle.feeds.specs.Pieces.{pieceIn}
 use Rattle.jobs.specs.declared.Job.{Job}
 use Rattle.jobs.specs.Jobs.{tableOf, live, lacks, distinct, unusedJob, tableIn}
+use Rattle.jobs.specs.Figures.{figured}
 use Rattle.edf.specs.Book.{Book}
 use Rattle.edf.specs.Releases as edf
 use Rattle.edf.specs.Owed.{byThen, owedBy, RoomBelow}
@@ -81,7 +82,7 @@ module _ (d : Desk) (number work lead : ℕ) where
 
   -- the state with the job that is asked for
   abbrev more : Ledger
-  more = moved (d .ledger) (d .ledger .clock) (d .ledger .feeds) (tableOf (live (d .ledger .table) ++ (job ∷ [])))
+  more = moved (d .ledger) (d .ledger .clock) (d .ledger .feeds) (tableOf (figured (live (d .ledger .table) ++ (job ∷ []))))
 
   -- up to the horizon there is time for what is owed
   abbrev fitting : Bool

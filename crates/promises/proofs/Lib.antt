@@ -5,6 +5,7 @@ pub mod Exact
 pub mod Carried
 pub mod Charge
 pub mod Kept
+pub mod Figures
 pub mod Load
 pub mod Finish
 pub mod Overbooked

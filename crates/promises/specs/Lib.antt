@@ -6,6 +6,7 @@ pub mod Runs
 pub mod Total
 pub mod Exact
 pub mod Kept
+pub mod Figures
 pub mod Load
 pub mod Finish
 pub mod Overbooked

@@ -8,6 +8,7 @@ use native.Mathlib.Omega.{arith}
 use Rattle.ticks.specs.Ticks.{ticks}
 use Rattle.jobs.specs.declared.Job.{Job}
 use Rattle.jobs.specs.Jobs.{tableOf, live}
+use Rattle.jobs.specs.Figures.{figured}
 use Rattle.edf.specs.Fits.{Fits}
 use Rattle.edf.specs.Owed.{owedBy}
 use Rattle.edf.specs.Calls.{taking}
@@ -99,7 +100,7 @@ explained-once d number work lead v w a b = go (firstOf (askLines d number (tick
 -- the instant that decides the book with the job says whether it fits
 module _ (d : Desk) (j : Job) (a : Admissible d j) where
   abbrev all : Ledger
-  all = moved (d .ledger) (d .ledger .clock) (d .ledger .feeds) (tableOf (live (d .ledger .table) ++ (j ∷ [])))
+  all = moved (d .ledger) (d .ledger .clock) (d .ledger .feeds) (tableOf (figured (live (d .ledger .table) ++ (j ∷ []))))
 
   read : bookOf all ≡ with-job d j
   read = taken-book d j a (all .table) refl

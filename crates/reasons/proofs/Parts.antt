@@ -15,7 +15,8 @@ use Rattle.edf.specs.Calls.{taking}
 use Rattle.edf.proofs.Tick.{owedBy-split}
 use Rattle.ledger.specs.declared.Ledger.{Ledger}
 use Rattle.ledger.specs.Books.{bookOf, bookJob}
-use Rattle.room.specs.Owed.{jobOwes, feedOwes}
+use Rattle.jobs.specs.Figures.{owesBy}
+use Rattle.room.specs.Owed.{feedOwes}
 use Rattle.room.proofs.Owed.{owed-by-is}
 
 -- one job more owes what it owes by its deadline
@@ -30,5 +31,6 @@ owed-taking j b D =
     )
 
 pub parts-make-owed : (l : Ledger) (j : Job) (D : ℕ)
-    → total (jobOwes D) (live (l .table)) + total (feedOwes (l .charge) (l .clock .0) D) (inUse (l .feeds)) + jobOwes D j ≡ owedBy (taking (bookJob j) (bookOf l)) D
+    → total (owesBy D) (live (l .table)) + total (feedOwes (l .charge) (l .clock .0) D) (inUse (l .feeds)) + owesBy D j ≡ owedBy (taking (bookJob j) (bookOf l)) D
+unfolding owesBy byThen
 parts-make-owed l j D = omega (arith, owed-by-is l D, owed-taking (bookJob j) (bookOf l) D)

@@ -10,8 +10,8 @@ use Rattle.lists.proofs.Tests.{ltb-elim}
 use Rattle.ticks.specs.declared.Instant.{Instant}
 use Rattle.ticks.specs.Ticks.{earlierOf}
 use Rattle.jobs.specs.declared.Job.{Job}
-use Rattle.edf.proofs.Demand.{byThen-in, byThen-out}
-use Rattle.room.specs.Owed.{jobOwes}
+use Rattle.jobs.proofs.Figures.{owes-by-in, owes-by-out}
+use Rattle.jobs.specs.Figures.{owesBy}
 use Rattle.reasons.specs.Until.{Until}
 
 -- what stays as it is up to one instant stays so up to the earlier of it and another
@@ -32,13 +32,13 @@ until-both f g owed by till m r e u v =
     }
 
 -- a job past its deadline owes what it owes
-pub job-still-past : (j : Job) (by : ℕ) → j .deadline .0 ≤ by → (E : ℕ) → by ≤ E → jobOwes E j ≡ jobOwes by j
-job-still-past j by h E k = byThen-in E (j .deadline .0) (j .owed .0) (omega arith) ∙ sym (byThen-in by (j .deadline .0) (j .owed .0) h)
+pub job-still-past : (j : Job) (by : ℕ) → j .deadline .0 ≤ by → (E : ℕ) → by ≤ E → owesBy E j ≡ owesBy by j
+job-still-past j by h E k = owes-by-in E j (omega arith) ∙ sym (owes-by-in by j h)
 
 -- and nothing before it
-pub job-still-before : (j : Job) (by : ℕ) → (E : ℕ) → by ≤ E → E < j .deadline .0 → jobOwes E j ≡ jobOwes by j
+pub job-still-before : (j : Job) (by : ℕ) → (E : ℕ) → by ≤ E → E < j .deadline .0 → owesBy E j ≡ owesBy by j
 job-still-before j by E k h =
-    byThen-out E (j .deadline .0) (j .owed .0) h ∙ sym (byThen-out by (j .deadline .0) (j .owed .0) (omega arith))
+    owes-by-out E j h ∙ sym (owes-by-out by j (omega arith))
 
 module _ {A : Type 0} (f : ℕ → A → ℕ) (by : ℕ) (xs : List A) where
   -- up to `next` what xs owe stays as it is, but for those that are left to look at

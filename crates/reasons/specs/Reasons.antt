@@ -16,7 +16,8 @@ use Rattle.edf.specs.Margin.{margin, Telling}
 use Rattle.edf.specs.Calls.{taking}
 use Rattle.ledger.specs.declared.Ledger.{Ledger}
 use Rattle.ledger.specs.Books.{bookOf, bookJob}
-use Rattle.room.specs.Owed.{jobOwes, feedOwes, Reach}
+use Rattle.jobs.specs.Figures.{owesBy}
+use Rattle.room.specs.Owed.{feedOwes, Reach}
 use Rattle.reasons.specs.declared.Debt.{Debt}
 use Rattle.reasons.specs.declared.Reason.{Reason}
 
@@ -39,9 +40,9 @@ abbrev pub reasonAt : Ledger → Job → Instant → Reason
 reasonAt l j at =
     record {
       at = at;
-      jobs = ticks (total (jobOwes (at .0)) (live (l .table)));
+      jobs = ticks (total (owesBy (at .0)) (live (l .table)));
       feeds = ticks (total (feedOwes (l .charge) (l .clock .0) (at .0)) (inUse (l .feeds)));
-      job = ticks (jobOwes (at .0) j);
+      job = ticks (owesBy (at .0) j);
       margin = margin (taking (bookJob j) (bookOf l)) (at .0);
     }
 

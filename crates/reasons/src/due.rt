@@ -15,13 +15,14 @@ ghost use Rattle.jobs.specs.Jobs.{mostJobs, live};
 ghost use Rattle.edf.specs.Owed.{owedBy};
 ghost use Rattle.ledger.specs.State.{InOrder};
 ghost use Rattle.ledger.specs.Books.{bookOf};
-ghost use Rattle.room.specs.Owed.{jobOwes, feedOwes, Reach};
+ghost use Rattle.jobs.specs.Figures.{owesBy};
+ghost use Rattle.room.specs.Owed.{feedOwes, Reach};
 ghost use Rattle.reasons.specs.Until.{Until};
 
 // The deadline of a job that is not due yet.
 fn job_due_after(job: Job, by: Instant, till: Instant) -> Instant
     requires { ⌜ by .0 < till .0 ⌝ }
-    ensures { λ r. ⌜ Until (λ D. jobOwes D job) (by .0) (till .0) (r .0) ⌝ }
+    ensures { λ r. ⌜ Until (λ D. owesBy D job) (by .0) (till .0) (r .0) ⌝ }
 {
     if job.deadline.is_after(by) {
         let deadline = job.deadline;
@@ -33,7 +34,7 @@ fn job_due_after(job: Job, by: Instant, till: Instant) -> Instant
 // The next deadline of the jobs.
 fn jobs_due_after(table: Table, by: Instant, till: Instant) -> Instant
     requires { ⌜ (table .count ≤ mostJobs) × (by .0 < till .0) ⌝ }
-    ensures { λ r. ⌜ Until (λ D. total (jobOwes D) (live table)) (by .0) (till .0) (r .0) ⌝ }
+    ensures { λ r. ⌜ Until (λ D. total (owesBy D) (live table)) (by .0) (till .0) (r .0) ⌝ }
 {
     let count = table.count;
     let mut next = till;

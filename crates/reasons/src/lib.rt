@@ -10,7 +10,8 @@ ghost use Prim.Native.Nat.{_+_, _≤_, _<_, _^_};
 ghost use lib.IntN.{pos, _-ℤ_};
 ghost use Rattle.ledger.specs.State.{InOrder};
 ghost use Rattle.ledger.specs.Books.{bookOf};
-ghost use Rattle.room.specs.Owed.{Modest, Reach};
+ghost use Rattle.jobs.specs.Figures.{Modest};
+ghost use Rattle.room.specs.Owed.{Reach};
 ghost use Rattle.reasons.specs.Reasons.{debtBy, tighter, Tells, noReason, nearReason, reasonAt};
 
 mod due;
@@ -114,14 +115,14 @@ pub fn reason_at(ledger: Ledger, job: Job, at: Instant) -> Reason
     ensures { λ r. ⌜ r ≡ reasonAt ledger job at ⌝ }
 {
     let clock = ledger.clock;
-    let jobs = room::jobs_owe(ledger.table, at);
+    let jobs = ledger.table.owed_by(at);
     let printers = room::feeds_owe(ledger.feeds, ledger.charge, clock, at);
-    let asked = room::job_owes(job, at);
+    let asked = job.owes_by(at);
     Reason {
         at,
-        jobs: Length(jobs),
+        jobs,
         feeds: Length(printers),
-        job: Length(asked),
-        margin: margin(at.ticks_since(clock), Length(jobs + printers + asked)),
+        job: asked,
+        margin: margin(at.ticks_since(clock), Length(jobs.0 + printers + asked.0)),
     }
 }

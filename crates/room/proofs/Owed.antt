@@ -15,6 +15,7 @@ use Rattle.feeds.specs.declared.Feed.{Feed}
 use Rattle.feeds.specs.Feeds.{FeedIn, inUse}
 use Rattle.feeds.specs.Pieces.{PieceIn}
 use Rattle.jobs.specs.Jobs.{JobIn, live}
+use Rattle.jobs.specs.Figures.{Modest, owesBy}
 use Rattle.edf.specs.Releases as releases
 use Rattle.edf.specs.Pieces.{jobPiece}
 use Rattle.edf.specs.Owed.{byThen, dueBy, laterCount, laterBy, owedBy}
@@ -25,7 +26,7 @@ use Rattle.ledger.specs.declared.Ledger.{Ledger}
 use Rattle.ledger.specs.State.{InOrder}
 use Rattle.ledger.specs.Books.{bookPlan, bookFeeds, bookJob, bookOf}
 use Rattle.ledger.proofs.Pieces.{since-read, due-read}
-use Rattle.room.specs.Owed.{jobOwes, Modest, feedOwes, FeedOrdered, farthest}
+use Rattle.room.specs.Owed.{feedOwes, FeedOrdered, farthest}
 
 -- before its current piece is due a feed owes nothing
 pub feed-owes-before : (c : Length) (t D : ℕ) (f : Feed) → D + since (f .plan) t < t + f .plan .lead .0 → feedOwes c t D f ≡ 0
@@ -95,7 +96,8 @@ feeds-owe-is c t D k (f ∷ fs) =
 
 -- WHAT IS OWED, of the desk's own jobs and feeds
 pub owed-by-is : (l : Ledger) (D : ℕ)
-    → total (jobOwes D) (live (l .table)) + total (feedOwes (l .charge) (l .clock .0) D) (inUse (l .feeds)) ≡ owedBy (bookOf l) D
+    → total (owesBy D) (live (l .table)) + total (feedOwes (l .charge) (l .clock .0) D) (inUse (l .feeds)) ≡ owedBy (bookOf l) D
+unfolding owesBy byThen
 owed-by-is l D =
     omega (
       arith,

@@ -1,4 +1,4 @@
--- What is owed by an instant, told of the desk's own jobs and feeds.
+-- What feeds owe by an instant, told of the desk's own feeds.
 use Prim.Native.Nat.{ℕ, _+_, _*_, _≤_}
 use Rattle.ticks.specs.declared.Instant.{Instant}
 use Rattle.ticks.specs.declared.Length.{Length}
@@ -7,21 +7,8 @@ use Rattle.plans.specs.Plans.{mostPiece, due}
 use Rattle.feeds.specs.declared.Feed.{Feed}
 use Rattle.feeds.specs.Feeds.{FeedIn}
 use Rattle.feeds.specs.Pieces.{PieceIn}
-use Rattle.jobs.specs.declared.Job.{Job}
 use Rattle.edf.specs.Owed.{byThen, laterBy}
 use Rattle.ledger.specs.Books.{bookPlan}
-
--- what a job owes by the instant D
-abbrev pub jobOwes : ℕ → Job → ℕ
-jobOwes D j = byThen D (j .deadline .0) (j .owed .0)
-
--- the most that a job may owe: the most work and the highest charge
-abbrev pub mostOwed : ℕ
-mostOwed = mostJob + mostCharge
-
--- a job owes no more than a job may
-abbrev pub Modest : Job → Type 0
-Modest j = j .owed .0 ≤ mostOwed
 
 -- what a feed owes by D, told at the instant t: its current piece and those to come, each of these with the charge
 unfoldable pub feedOwes : Length → ℕ → ℕ → Feed → ℕ

@@ -3,7 +3,6 @@
 // It must not know refusals, nor the step.
 use feeds::Feed;
 use feeds::Feeds;
-use jobs::Job;
 use jobs::Table;
 use ledger::Ledger;
 use ticks::Instant;
@@ -17,32 +16,9 @@ ghost use Rattle.jobs.specs.Jobs.{mostJobs, live};
 ghost use Rattle.edf.specs.Owed.{owedBy};
 ghost use Rattle.ledger.specs.State.{InOrder};
 ghost use Rattle.ledger.specs.Books.{bookOf};
-ghost use Rattle.room.specs.Owed.{mostOwed, jobOwes, Modest, feedOwes, FeedOrdered, mostOfFeed, Reach};
+ghost use Rattle.room.specs.Owed.{feedOwes, FeedOrdered, mostOfFeed, Reach};
 ghost use Rattle.room.specs.Ahead.{latestOf, nextOf, horizonOf};
 ghost use Rattle.room.specs.Walk.{RoomSays, FitsSays};
-
-// A job counts from its deadline on.
-pub fn job_owes(job: Job, by: Instant) -> u64
-    ensures { λ r. ⌜ r ≡ jobOwes (by .0) job ⌝ }
-{
-    if job.deadline.is_after(by) {
-        return 0;
-    }
-    job.owed.0
-}
-
-// The customers' part of what is owed by an instant.
-pub fn jobs_owe(table: Table, by: Instant) -> u64
-    requires { ⌜ (table .count ≤ mostJobs) × Each Modest (live table) ⌝ }
-    ensures { λ r. ⌜ (r ≡ total (jobOwes (by .0)) (live table)) × (r ≤ mostJobs * mostOwed) ⌝ }
-{
-    let count = table.count;
-    let mut sum = 0;
-    for i in 0..count {
-        sum += job_owes(table.jobs[i], by);
-    }
-    sum
-}
 
 // The current piece counts from its deadline on, and from then on a whole piece more with every period. The lead from the clock
 // lies as far past the deadline as the instant and the time since the release past the instant, so no deadline before the first
@@ -78,7 +54,7 @@ pub fn owed_by(ledger: Ledger, by: Instant) -> Length
     requires { ⌜ InOrder ledger × Reach (ledger .clock) by ⌝ }
     ensures { λ r. ⌜ r ≡ ticks (owedBy (bookOf ledger) (by .0)) ⌝ }
 {
-    Length(jobs_owe(ledger.table, by) + feeds_owe(ledger.feeds, ledger.charge, ledger.clock, by))
+    Length(ledger.table.owed_by(by).0 + feeds_owe(ledger.feeds, ledger.charge, ledger.clock, by))
 }
 
 // The last deadline of the jobs, if it is after this instant.

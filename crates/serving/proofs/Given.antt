@@ -12,6 +12,7 @@ use Rattle.feeds.specs.declared.Feed.{Feed}
 use Rattle.feeds.specs.Feeds.{plansOf}
 use Rattle.feeds.proofs.Same.{served-plans}
 use Rattle.jobs.specs.declared.Job.{Job}
+use Rattle.jobs.specs.Figures.{figured}
 use Rattle.jobs.specs.Served.{Owing, servedJob, served}
 use Rattle.answers.specs.declared.Who.{Who}
 use Rattle.answers.specs.declared.Who.the-variants as who
@@ -55,21 +56,25 @@ jobs-unserved g (j ∷ js) z o =
     ∙ (λ i. record { number = j .number; owes = e i; due = j .deadline .0 } ∷ jobs-unserved g js z (o .1) i)
 
 -- the tick given to a job, as the mathematics has it
-jobs-served : (n : ℕ) (js : List Job) → served n js ≡ map jobOf (left (edf.job n) js)
+jobs-served : (n : ℕ) (js : List Job) → map bookJob (served n js) ≡ left (edf.job n) js
 unfolding edf.same
 jobs-served n [] = refl
 jobs-served n (j ∷ js) = go (jobs-served n js) (ltb 0 (j .owed .0 - eq n (j .number)))
   where
-    go : served n js ≡ map jobOf (left (edf.job n) js) → (b : Bool)
-        → cond b (servedJob n j ∷ served n js) (served n js)
-        ≡ map jobOf (cond b (serveJob (edf.job n) (bookJob j) ∷ left (edf.job n) js) (left (edf.job n) js))
-    go ih true = ap (servedJob n j ∷_) ih
+    go : map bookJob (served n js) ≡ left (edf.job n) js → (b : Bool)
+        → map bookJob (cond b (servedJob n j ∷ served n js) (served n js))
+        ≡ cond b (serveJob (edf.job n) (bookJob j) ∷ left (edf.job n) js) (left (edf.job n) js)
+    go ih true = ap (bookJob (servedJob n j) ∷_) ih
     go ih false = ih
 
--- the jobs after the tick are the jobs of the book after it
-pub jobs-given : (w : Who) (js : List Job) → Each Owing js
-    → servedJobs w js ≡ map jobOf (keep (λ j. ltb 0 (j .owes)) (map (serveJob (whoOf w)) (map bookJob js)))
+-- the jobs after the tick are read as the jobs of the book after it
+jobs-read : (w : Who) (js : List Job) → Each Owing js → map bookJob (servedJobs w js) ≡ left (whoOf w) js
 unfolding edf.same
-jobs-given (who.Job n) js o = jobs-served n js
-jobs-given (who.Feed p) js o = sym (ap (map jobOf) (jobs-unserved (edf.feed p) js (λ n. refl) o) ∙ jobs-of-book js)
-jobs-given who.Idle js o = sym (ap (map jobOf) (jobs-unserved edf.idle js (λ n. refl) o) ∙ jobs-of-book js)
+jobs-read (who.Job n) js o = jobs-served n js
+jobs-read (who.Feed p) js o = sym (jobs-unserved (edf.feed p) js (λ n. refl) o)
+jobs-read who.Idle js o = sym (jobs-unserved edf.idle js (λ n. refl) o)
+
+-- and written from them, the figures done afresh
+pub jobs-given : (w : Who) (js : List Job) → Each Owing js
+    → figured (servedJobs w js) ≡ figured (map jobOf (keep (λ j. ltb 0 (j .owes)) (map (serveJob (whoOf w)) (map bookJob js))))
+jobs-given w js o = sym (jobs-of-book (servedJobs w js)) ∙ ap (λ ks. figured (map jobOf ks)) (jobs-read w js o)

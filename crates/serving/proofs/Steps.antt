@@ -15,6 +15,7 @@ use Rattle.feeds.specs.Pieces.{arrived}
 use Rattle.feeds.proofs.Passing.{in-use-of, tidy-of}
 use Rattle.feeds.proofs.Same.{same-length, same-within}
 use Rattle.jobs.specs.Jobs.{JobIn, live, tableOf}
+use Rattle.jobs.specs.Figures.{figured}
 use Rattle.jobs.specs.Served.{Owing}
 use Rattle.answers.specs.declared.Who.{Who}
 use Rattle.edf.specs.Step.{serve, turnFeed, turn, stepBy, step, runner}
@@ -34,7 +35,7 @@ length-read c k (f ∷ fs) = ap suc (length-read c (suc k) fs)
 abbrev pub given : Ledger → Who → Ledger
 given l w =
     moved l (next (l .clock)) (feedsOf (map (arrived (l .charge) (next (l .clock))) (servedFeeds w (inUse (l .feeds)))))
-    (tableOf (servedJobs w (live (l .table))))
+    (tableOf (figured (servedJobs w (live (l .table)))))
 
 module _ (l : Ledger) (o : InOrder l) where
   -- live jobs owe something
@@ -65,9 +66,9 @@ module _ (l : Ledger) (o : InOrder l) where
       ∙ ap (λ ks. owingAs (map (turnFeed x) ks) fs) (feeds-given (l .charge) w fs)
       ∙ ap (λ g. owingAs (stepBy g (bookOf l) .feeds) fs) (sym e)
 
-  jobs-stepped : (w : Who) → runner (bookOf l) .who ≡ whoOf w → servedJobs w (live (l .table)) ≡ map jobOf (step (bookOf l) .jobs)
+  jobs-stepped : (w : Who) → runner (bookOf l) .who ≡ whoOf w → figured (servedJobs w (live (l .table))) ≡ figured (map jobOf (step (bookOf l) .jobs))
   unfolding step stepBy turn serve
-  jobs-stepped w e = jobs-given w (live (l .table)) owing-jobs ∙ ap (λ g. map jobOf (stepBy g (bookOf l) .jobs)) (sym e)
+  jobs-stepped w e = jobs-given w (live (l .table)) owing-jobs ∙ ap (λ g. figured (map jobOf (stepBy g (bookOf l) .jobs))) (sym e)
 
   -- THE STATE AFTER A STEP
   pub given-stepped : (w : Who) → runner (bookOf l) .who ≡ whoOf w → given l w ≡ rewritten l (step (bookOf l))
@@ -75,5 +76,5 @@ module _ (l : Ledger) (o : InOrder l) where
   given-stepped w e =
       let fs = inUse (l .feeds) in
       let js = live (l .table) in
-      (λ i. moved l (instant (add-one (l .clock .0) i)) (feedsOf (map (arrived (l .charge) (instant (add-one (l .clock .0) i))) (servedFeeds w fs))) (tableOf (servedJobs w js)))
+      (λ i. moved l (instant (add-one (l .clock .0) i)) (feedsOf (map (arrived (l .charge) (instant (add-one (l .clock .0) i))) (servedFeeds w fs))) (tableOf (figured (servedJobs w js))))
       ∙ (λ i. moved l (instant (suc (l .clock .0))) (feedsOf (feeds-stepped w e i)) (tableOf (jobs-stepped w e i)))

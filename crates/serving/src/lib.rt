@@ -17,6 +17,7 @@ ghost use Rattle.lists.specs.Lists.{Each};
 ghost use Rattle.ticks.specs.Ticks.{ticks};
 ghost use Rattle.feeds.specs.Feeds.{mostFeeds, inUse, feedsOf, FeedIn, Tidy as TidyFeeds};
 ghost use Rattle.jobs.specs.Jobs.{mostJobs, live, tableOf, times, Tidy as TidyTable};
+ghost use Rattle.jobs.specs.Figures.{Figured, figured};
 ghost use Rattle.jobs.specs.Served.{Owing};
 ghost use Rattle.edf.specs.Step.{kind, runner};
 ghost use Rattle.ledger.specs.State.{InOrder};
@@ -187,8 +188,8 @@ fn serve_feeds(feeds: Feeds, who: Who) -> Feeds
 
 // The jobs after the tick was given.
 fn serve_jobs(table: Table, who: Who) -> Table
-    requires { ⌜ TidyTable table × Each Owing (live table) × ((n : ℕ) → times n (live table) ≤ 1) ⌝ }
-    ensures { λ r. ⌜ r ≡ tableOf (servedJobs who (live table)) ⌝ }
+    requires { ⌜ TidyTable table × Each Owing (live table) × Figured (live table) × ((n : ℕ) → times n (live table) ≤ 1) ⌝ }
+    ensures { λ r. ⌜ r ≡ tableOf (figured (servedJobs who (live table))) ⌝ }
 {
     match who {
         Who::Job(number) => table.serve(number),

@@ -15,7 +15,7 @@ use Rattle.ledger.specs.Books.{bookOf}
 use Rattle.ledger.proofs.InOrder.{in-order}
 use Rattle.reasons.specs.Reasons.{Tells, nearReason}
 use Rattle.desk.specs.Asking.{with-job}
-use Rattle.desk.proofs.Asking.{taken-in-order, taken-book}
+use Rattle.desk.proofs.Asking.{takes, taken-in-order, taken-book}
 use Rattle.questions.proofs.Whys.{told-after, short-told, room-told}
 use Rattle.questions.proofs.explain.Statement.{statement}
 use Rattle.questions.proofs.explain.Tie as tie
@@ -85,7 +85,7 @@ pub explain-spec : {M : Type 1} → statement M
 explain-spec =
     tie.close
     (tie.spec
-    (λ c κs. (order (c .before) .tidyTable, c .before .pre .space))
+    (λ c κs. takes (c .before .args .desk) (c .before .args .job) (c .before .pre))
     (λ c κs. search needs)
     tightest-requires
     reason-at-requires

@@ -11,30 +11,31 @@ use Rattle.edf.specs.Book.{Book}
 use Rattle.edf.specs.Owed.{owedBy}
 use Rattle.edf.specs.Margin.{margin}
 use Rattle.edf.specs.Calls.{taking}
-use Rattle.edf.proofs.Demand.{byThen-le}
 use Rattle.ledger.specs.Books.{bookOf, bookJob}
-use Rattle.room.specs.Owed.{mostOwed}
+use Rattle.jobs.specs.Figures.{mostOwed}
+use Rattle.jobs.proofs.Figures.{owes-by-le}
 use Rattle.room.proofs.Owed.{jobs-modest, feeds-ordered}
 use Rattle.reasons.proofs.Parts.{parts-make-owed}
 use Rattle.reasons.proofs.reason_at.Statement.{statement}
 use Rattle.reasons.proofs.reason_at.Tie as tie
 
-jobs-owe-requires : tie.Need-jobs-owe-requires
-jobs-owe-requires c κs = let p = c .before .pre in (p .0 .tidyTable .few, jobs-modest _ (p .0))
+owed-by-requires : tie.Need-owed-by-requires
+owed-by-requires c κs = let p = c .before .pre in (p .0 .tidyTable .few, jobs-modest _ (p .0))
 
 feeds-owe-requires : tie.Need-feeds-owe-requires
 feeds-owe-requires c κs = let p = c .before .before .pre in (p .0 .tidyFeeds .few, feeds-ordered _ (p .0), p .0 .charge, p .2)
 
+abbrev start : tie.After-owes-by → tie.Start
+start c = c .before .before .before .before
+
 -- the job owes no more than a job may
-modest : (c : tie.After-job-owes) → c .job-owes .result ≤ mostOwed
+modest : (c : tie.After-owes-by) → c .owes-by .result .0 ≤ mostOwed
 modest c =
-    let start = c .before .before .before .before in
-    let job = start .args .job in
-    omega (arith, c .job-owes .ensures, byThen-le (start .args .at .0) (job .deadline .0) (job .owed .0), start .pre .1)
+    omega (arith, ap (λ l. l .0) (c .owes-by .ensures), owes-by-le (start c .args .at .0) (start c .args .job), start c .pre .1)
 
 -- all that is owed is far below what a signed number holds
-small : (c : tie.After-job-owes) → c .before .before .jobs-owe .result + c .before .feeds-owe .result + c .job-owes .result < 2 ^ 63
-small c = omega (arith, c .before .before .jobs-owe .ensures .1, c .before .feeds-owe .ensures .1, modest c)
+small : (c : tie.After-owes-by) → c .before .before .owed-by .result .0 + c .before .feeds-owe .result + c .owes-by .result .0 < 2 ^ 63
+small c = omega (arith, c .before .before .owed-by .ensures .1, c .before .feeds-owe .ensures .1, modest c)
 
 -- and so is the time until the instant
 soon : (c : tie.After-ticks-since) → c .ticks-since .result .0 < 2 ^ 63
@@ -45,29 +46,29 @@ abbrev book : tie.Start → Book
 book c = taking (bookJob (c .args .job)) (bookOf (c .args .ledger))
 
 -- the parts make all that is owed
-whole : (c : tie.After-job-owes) → c .before .before .jobs-owe .result + c .before .feeds-owe .result + c .job-owes .result ≡ owedBy (book (c .before .before .before .before)) (c .before .before .before .before .args .at .0)
+whole : (c : tie.After-owes-by) → c .before .before .owed-by .result .0 + c .before .feeds-owe .result + c .owes-by .result .0 ≡ owedBy (book (start c)) (start c .args .at .0)
 whole c =
-    let start = c .before .before .before .before in
     omega (
       arith,
-      c .before .before .jobs-owe .ensures .0,
+      ap (λ l. l .0) (c .before .before .owed-by .ensures .0),
       c .before .feeds-owe .ensures .0,
-      c .job-owes .ensures,
-      parts-make-owed (start .args .ledger) (start .args .job) (start .args .at .0),
+      ap (λ l. l .0) (c .owes-by .ensures),
+      parts-make-owed (start c .args .ledger) (start c .args .job) (start c .args .at .0),
     )
 
 -- so the margin is that of the book with the job
-told : (c : tie.After-margin) → c .margin .result ≡ margin (book (c .before .before .before .before .before .before)) (c .before .before .before .before .before .before .args .at .0)
+told : (c : tie.After-margin) → c .margin .result ≡ margin (book (start (c .before .before .before .before))) (start (c .before .before .before .before) .args .at .0)
 unfolding margin taking
-told c = c .margin .ensures ∙ (λ i. pos (c .before .ticks-since .ensures i .0) -ℤ pos (whole (c .before .before) i))
+told c = c .margin .ensures ∙ (λ i. pos (c .before .before .before .ticks-since .ensures i .0) -ℤ pos (whole (c .before .before .before .before) i))
 
 returns : tie.Need-returns
 returns c =
+    let owes = c .before .before .before .before in
     λ i. record {
-      at = c .before .before .before .before .before .before .args .at;
-      jobs = ticks (c .before .before .before .before .jobs-owe .ensures .0 i);
-      feeds = ticks (c .before .before .before .feeds-owe .ensures .0 i);
-      job = ticks (c .before .before .job-owes .ensures i);
+      at = start owes .args .at;
+      jobs = owes .before .before .owed-by .ensures .0 i;
+      feeds = ticks (owes .before .feeds-owe .ensures .0 i);
+      job = owes .owes-by .ensures i;
       margin = (toZ-ofZ w64 (c .margin .result) (search needs) ∙ told c) i;
     }
 
@@ -75,11 +76,11 @@ pub reason-at-spec : {M : Type 1} → statement M
 reason-at-spec =
     tie.close
     (tie.spec
-    jobs-owe-requires
+    owed-by-requires
     feeds-owe-requires
     (λ c κs. search needs)
     (λ c κs. search needs)
-    (λ c. omega (arith, small (c .before)))
-    (λ c. omega (arith, small (c .before)))
-    (λ c κs. (soon c, small (c .before)))
+    (λ c. omega (arith, small (c .before .before)))
+    (λ c. omega (arith, small (c .before .before .before)))
+    (λ c κs. (soon (c .before .before), small (c .before .before .before)))
     returns)

@@ -10,8 +10,8 @@ use Rattle.room.proofs.Owed.{owed-by-is, jobs-modest, feeds-ordered}
 use Rattle.room.proofs.owed_by.Statement.{statement}
 use Rattle.room.proofs.owed_by.Tie as tie
 
-jobs-owe-requires : tie.Need-jobs-owe-requires
-jobs-owe-requires c κs = (c .pre .0 .tidyTable .few, jobs-modest _ (c .pre .0))
+owed-by-requires : tie.Need-owed-by-requires
+owed-by-requires c κs = (c .pre .0 .tidyTable .few, jobs-modest _ (c .pre .0))
 
 feeds-owe-requires : tie.Need-feeds-owe-requires
 feeds-owe-requires c κs =
@@ -20,15 +20,15 @@ feeds-owe-requires c κs =
 
 returns : tie.Need-returns
 returns c =
-    let start = c .before .before in
-    let sum : c .before .jobs-owe .result + c .feeds-owe .result ≡ owedBy (bookOf (start .args .ledger)) (start .args .by .0)
+    let start = c .before .before .before in
+    let sum : c .before .before .owed-by .result .0 + c .before .feeds-owe .result ≡ owedBy (bookOf (start .args .ledger)) (start .args .by .0)
     = omega (
       arith,
-      c .before .jobs-owe .ensures .0,
-      c .feeds-owe .ensures .0,
+      ap (λ l. l .0) (c .before .before .owed-by .ensures .0),
+      c .before .feeds-owe .ensures .0,
       owed-by-is (start .args .ledger) (start .args .by .0),
     ) in
     ap ticks sum
 
 pub owed-by-spec : {M : Type 1} → statement M
-owed-by-spec = tie.close (tie.spec jobs-owe-requires feeds-owe-requires (λ c. search needs) returns)
+owed-by-spec = tie.close (tie.spec owed-by-requires feeds-owe-requires (λ c. search needs) returns)

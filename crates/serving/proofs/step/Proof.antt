@@ -54,7 +54,7 @@ arrive-requires c κs =
 serve-jobs-requires : tie.Need-serve-jobs-requires
 serve-jobs-requires c κs =
     let from = start (c .before .before .before) in
-    (from .pre .tidyTable, owing-jobs (from .args .ledger) (from .pre), from .pre .jobs .once)
+    (from .pre .tidyTable, owing-jobs (from .args .ledger) (from .pre), from .pre .jobs .figures, from .pre .jobs .once)
 
 -- the state that is handed back
 written : (c : tie.After-moved) → c .moved .result ≡ given (start (c .before .before .before .before .before) .args .ledger) (c .before .before .before .before .before .foremost .result .who)

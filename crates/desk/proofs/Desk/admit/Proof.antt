@@ -10,7 +10,7 @@ use Rattle.ledger.proofs.InOrder.{in-order}
 use Rattle.desk.specs.State.{with}
 use Rattle.desk.specs.Asking.{with-job, Judged}
 use Rattle.desk.proofs.Calls.{taken-ledger}
-use Rattle.desk.proofs.Asking.{taken-in-order, taken-book}
+use Rattle.desk.proofs.Asking.{takes, taken-in-order, taken-book}
 use Rattle.desk.proofs.Desk.admit.Statement.{statement}
 use Rattle.desk.proofs.Desk.admit.Tie as tie
 
@@ -43,4 +43,4 @@ unfolding Judged
 returns-2 c = inr (says (c .before) .no (c .if1 .left), refl)
 
 pub admit-spec : {M : Type 1} → statement M
-admit-spec = tie.close (tie.spec (λ c κs. (order (c .before) .tidyTable, c .before .pre .space)) (λ c κs. search needs) fits-requires (λ c κs. search needs) returns returns-2)
+admit-spec = tie.close (tie.spec (λ c κs. takes (c .before .args .self) (c .before .args .job) (c .before .pre)) (λ c κs. search needs) fits-requires (λ c κs. search needs) returns returns-2)

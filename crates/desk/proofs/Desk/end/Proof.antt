@@ -47,4 +47,4 @@ returns-2 c =
 pub end-spec : {M : Type 1} → statement M
 end-spec =
     tie.close
-    (tie.spec (λ c κs. search needs) (λ c κs. search needs) returns (λ c κs. (order (c .before) .tidyTable, order (c .before) .jobs .once)) (λ c κs. search needs) (λ c κs. search needs) returns-2)
+    (tie.spec (λ c κs. search needs) (λ c κs. search needs) returns (λ c κs. (order (c .before) .tidyTable, order (c .before) .jobs .figures, order (c .before) .jobs .once)) (λ c κs. search needs) (λ c κs. search needs) returns-2)

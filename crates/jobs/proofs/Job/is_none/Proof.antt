@@ -20,9 +20,18 @@ returns-2 c =
 returns-3 : tie.Need-returns-3
 unfolding unusedJob
 returns-3 c =
-    passes _ _ _ (eq-eqb _ _ (c .before .before .before .if1 .left))
-    (passes _ _ _ (sym (c .before .before .is-none .ensures) ∙ not-false _ (c .before .if2 .left))
-    (last _ _ (c .is-first .ensures)))
+    passes _ _ _ (eq-eqb _ _ (c .before .before .before .before .if1 .left))
+    (passes _ _ _ (sym (c .before .before .before .is-none .ensures) ∙ not-false _ (c .before .before .if2 .left))
+    (fails _ _ (sym (c .before .is-first .ensures) ∙ not-true _ (c .if3 .taken))))
+
+returns-4 : tie.Need-returns-4
+unfolding unusedJob
+returns-4 c =
+    passes _ _ _ (eq-eqb _ _ (c .before .before .before .before .before .if1 .left))
+    (passes _ _ _ (sym (c .before .before .before .before .is-none .ensures) ∙ not-false _ (c .before .before .before .if2 .left))
+    (passes _ _ _ (sym (c .before .before .is-first .ensures) ∙ not-false _ (c .before .if3 .left))
+    (last _ _ (c .is-none2 .ensures))))
 
 pub is-none-spec : {M : Type 1} → statement M
-is-none-spec = tie.close (tie.spec returns (λ c κs. search needs) returns-2 (λ c κs. search needs) returns-3)
+is-none-spec =
+    tie.close (tie.spec returns (λ c κs. search needs) returns-2 (λ c κs. search needs) returns-3 (λ c κs. search needs) returns-4)

@@ -1,45 +1,72 @@
--- `jobs::Table::end` meets its contract: the jobs without the one at the number's place are those of other numbers.
+-- `jobs::Table::end` meets its contract: the job at the number's place owes nothing any more, and then it is out.
 use mathlib.Core.Path.{_≡_, sym, ap, _∙_}
 use mathlib.Core.List.{_++_}
-use Prim.Native.Nat.{ℕ, _+_, _<_}
+use Prim.Native.Nat.{ℕ, _<_}
 use native.Mathlib.Numerals.{add-one}
 use native.Mathlib.Omega.{arith}
 use borrow.Author.Needs.{needs}
-use lib.ListN.{take, drop}
-use Rattle.jobs.specs.Jobs.{live, tableOf, FoundAt}
+use lib.ListN.{getD, take, drop}
+use Rattle.lists.proofs.Maps.{out}
+use Rattle.jobs.specs.declared.Table.{Table}
+use Rattle.jobs.specs.Jobs.{noJob, live, tableOf, FoundAt}
+use Rattle.jobs.specs.Figures.{figured}
 use Rattle.jobs.proofs.Numbers.{found-first, found-nothing, others-all, without-others}
-use Rattle.jobs.proofs.Places.{live-count}
+use Rattle.jobs.proofs.Figures.{figured-own}
+use Rattle.jobs.proofs.Places.{live-count, live-at, less-count, less-tidy, spent-leaves}
 use Rattle.jobs.proofs.Table.end.Statement.{statement}
 use Rattle.jobs.proofs.Table.end.Tie as tie
 
 abbrev start : tie.After-known-told → tie.Start
 start c = c .before .before .before .before
 
+abbrev table : tie.After-known-told → Table
+table c = start c .args .t1
+
 abbrev at : tie.After-known-told → ℕ
 at c = c .before .at .given .0 .0
 
-found : (c : tie.After-known-told) → FoundAt (start c .args .number) (at c) (live (start c .args .self))
-found c = found-first _ _ (live (start c .args .self)) (sym (c .before .before .before .find .ensures) ∙ c .before .at .given .1)
+found : (c : tie.After-known-told) → FoundAt (start c .args .number) (at c) (live (table c))
+found c = found-first _ _ (live (table c)) (sym (c .before .before .before .find .ensures) ∙ c .before .at .given .1)
+
+place : (c : tie.After-known-told) → at c < table c .count
+place c = omega (arith, found c .inside, live-count (table c) (start c .pre .0))
+
+-- all that the job owes, at its place of the array
+owed : (c : tie.After-known-told) → getD (live (table c)) (at c) noJob .owed .0 ≡ getD (table c .jobs) (at c) noJob .owed .0
+owed c = ap (λ j. j .owed .0) (live-at (table c) (at c) (place c))
 
 without-requires : tie.Need-without-requires
 without-requires c κs =
-    (start c .pre .0, omega (arith, found c .inside, live-count (start c .args .self) (start c .pre .0)))
+    let k = c .before .before in
+    rw (c .owing-less .ensures) (less-tidy (table k) (start k .pre .0) (at k) _ (place k), omega (arith, less-count (table k) (start k .pre .0) (at k) (getD (table k .jobs) (at k) noJob .owed .0) (place k), place k))
 
 returns : tie.Need-returns
 returns c =
-    let k = c .before in
-    let js = live (start k .args .self) in
+    let k = c .before .before .before in
+    let js = live (table k) in
     c .without .ensures
-    ∙ ap (λ n. tableOf (take (at k) js ++ drop n js)) (add-one (at k))
-    ∙ ap tableOf (without-others _ (at k) js (start k .pre .1 _) (found k))
+    ∙ ap (λ t. tableOf (out (at k) (live t))) (c .before .owing-less .ensures)
+    ∙ spent-leaves (table k) (start k .pre .0) (at k) _ (place k) (omega (arith, owed k))
+    ∙ ap (λ n. tableOf (figured (take (at k) js ++ drop n js))) (add-one (at k))
+    ∙ ap (λ l. tableOf (figured l)) (without-others _ (at k) js (start k .pre .2 _) (found k))
 
 returns-2 : tie.Need-returns-2
 returns-2 c =
     let start = c .before .before .before in
-    let none = found-nothing _ _ (live (start .args .self)) (sym (c .before .before .find .ensures) ∙ c .enum-told .given .1) in
-    start .pre .0 .filled ∙ ap tableOf (sym (others-all _ (live (start .args .self)) none))
+    let js = live (start .args .t1) in
+    let none = found-nothing _ _ js (sym (c .before .before .find .ensures) ∙ c .enum-told .given .1) in
+    start .pre .0 .filled ∙ ap tableOf (sym (ap figured (others-all _ js none) ∙ figured-own js (start .pre .1)))
 
 pub end-spec : {M : Type 1} → statement M
 end-spec =
     tie.close
-    (tie.spec (λ c κs. search needs) (λ c. search needs) without-requires (λ c. search needs) returns returns-2)
+    (tie.spec
+    (λ c κs. search needs)
+    (λ c. search needs)
+    (λ c. omega (arith, place c, start c .pre .0 .few))
+    (λ c. omega (arith, place c, start c .pre .0 .few))
+    (λ c κs. (start (c .before) .pre .0, place (c .before), start (c .before) .pre .1, omega (arith, owed (c .before))))
+    without-requires
+    (λ c. search needs)
+    returns
+    returns-2)

@@ -1,19 +1,21 @@
--- `jobs::Table::serve` meets its contract: the job at the place of its number leaves with its last tick, or stays with one
--- tick less.
+-- `jobs::Table::serve` meets its contract: the job at the place of its number has one tick less to get, and leaves with its last.
 use mathlib.Core.Path.{_≡_, sym, ap, _∙_}
-use Prim.Native.Nat.{ℕ, _-_, _<_}
+use Prim.Native.Nat.{ℕ, _-_, _≤_, _<_}
 use native.Mathlib.Omega.{arith}
 use borrow.Author.Needs.{needs}
 use borrow.Author.Tests.{eqb-true, eqb-false}
-use lib.ListN.{getD, set}
+use lib.ListN.{getD}
 use Rattle.lists.proofs.Places.{each-getD}
-use Rattle.jobs.specs.declared.Job.{Job}
+use Rattle.lists.proofs.Maps.{out}
+use Rattle.ticks.specs.Ticks.{ticks}
 use Rattle.jobs.specs.declared.Table.{Table}
 use Rattle.jobs.specs.Jobs.{noJob, live, tableOf, FoundAt}
-use Rattle.jobs.specs.Served.{Owing}
+use Rattle.jobs.specs.Served.{Owing, owingLess}
+use Rattle.jobs.specs.Figures.{figured}
 use Rattle.jobs.proofs.Numbers.{found-first, found-nothing}
-use Rattle.jobs.proofs.Places.{live-count, live-at, one-changed}
-use Rattle.jobs.proofs.Served.{oneLess, served-others, served-leaves, served-stays}
+use Rattle.jobs.proofs.Figures.{figured-own}
+use Rattle.jobs.proofs.Places.{live-count, less-count, less-tidy, less-owes, spent-leaves}
+use Rattle.jobs.proofs.Served.{served-others, served-leaves, served-stays}
 use Rattle.jobs.proofs.Table.serve.Statement.{statement}
 use Rattle.jobs.proofs.Table.serve.Tie as tie
 
@@ -21,7 +23,7 @@ abbrev start : tie.After-known-told → tie.Start
 start c = c .before .before .before .before
 
 abbrev table : tie.After-known-told → Table
-table c = start c .args .t1
+table c = start c .args .self
 
 abbrev at : tie.After-known-told → ℕ
 at c = c .before .at .given .0 .0
@@ -32,41 +34,62 @@ found c = found-first _ _ (live (table c)) (sym (c .before .before .before .find
 place : (c : tie.After-known-told) → at c < table c .count
 place c = omega (arith, found c .inside, live-count (table c) (start c .pre .0))
 
--- what the job owes is read at its place of the array
-owed : (c : tie.After-known-told) → getD (live (table c)) (at c) noJob .owed .0 ≡ getD (table c .jobs) (at c) noJob .owed .0
-owed c = ap (λ j. j .owed .0) (live-at (table c) (at c) (place c))
-
 owing : (c : tie.After-known-told) → Owing (getD (live (table c)) (at c) noJob)
 owing c = each-getD Owing (live (table c)) (at c) noJob (start c .pre .1) (found c .inside)
 
--- what it owes after the tick
-left : (c : tie.After-one-less) → c .one-less .result .0 ≡ getD (live (table (c .before .before))) (at (c .before .before)) noJob .owed .0 - 1
-left c = ap (λ l. l .0) (c .one-less .ensures) ∙ ap (λ n. n - 1) (sym (owed (c .before .before)))
+-- the table after the tick, the job still in it
+after : (c : tie.After-owing-less) → c .owing-less .result ≡ tableOf (figured (owingLess (at (c .before .before)) 1 (live (table (c .before .before)))))
+after c = c .owing-less .ensures ∙ ap (λ l. tableOf (figured (owingLess (at (c .before .before)) (l .0) (live (table (c .before .before)))))) (c .before .of .ensures)
+
+inside : (c : tie.After-owing-less) → at (c .before .before) < c .owing-less .result .count
+inside c =
+    let k = c .before .before in
+    omega (arith, ap (λ t. t .count) (after c), less-count (table k) (start k .pre .0) (at k) 1 (place k), place k)
+
+few : (c : tie.After-owing-less) → c .owing-less .result .count ≤ 64
+few c =
+    let k = c .before .before in
+    omega (arith, ap (λ t. t .count) (after c), less-count (table k) (start k .pre .0) (at k) 1 (place k), start k .pre .0 .few)
+
+-- what the job then owes
+left : (c : tie.After-owing-less) → getD (c .owing-less .result .jobs) (at (c .before .before)) noJob .owed .0 ≡ getD (live (table (c .before .before))) (at (c .before .before)) noJob .owed .0 - 1
+left c =
+    let k = c .before .before in
+    ap (λ t. getD (t .jobs) (at k) noJob .owed .0) (after c) ∙ less-owes (table k) (start k .pre .0) (at k) 1 (place k)
+
+without-requires : tie.Need-without-requires
+without-requires c κs =
+    let o = c .before .before .before in
+    let k = o .before .before in
+    rw (after o) (less-tidy (table k) (start k .pre .0) (at k) 1 (place k), omega (arith, less-count (table k) (start k .pre .0) (at k) 1 (place k), place k))
 
 returns : tie.Need-returns
 returns c =
-    let k = c .before .before .before .before .before in
-    let none : c .before .before .before .one-less .result .0 ≡ 0 = eqb-true _ _ (sym (c .before .before .is-none .ensures) ∙ c .before .if1 .taken) in
+    let o = c .before .before .before .before in
+    let k = o .before .before in
+    let js = live (table k) in
+    let none : getD (o .owing-less .result .jobs) (at k) noJob .owed .0 ≡ 0 = eqb-true _ _ (sym (c .before .before .is-none .ensures) ∙ c .before .if1 .taken) in
+    let last : getD js (at k) noJob .owed .0 ≤ 1 = omega (arith, left o, none) in
     c .without .ensures
-    ∙ ap tableOf (sym (served-leaves _ _ (live (table k)) (found k) (start k .pre .2 _) (start k .pre .1) (omega (arith, left (c .before .before .before)))))
+    ∙ ap (λ t. tableOf (out (at k) (live t))) (after o)
+    ∙ spent-leaves (table k) (start k .pre .0) (at k) 1 (place k) last
+    ∙ ap (λ l. tableOf (figured l)) (sym (served-leaves _ _ js (found k) (start k .pre .3 _) (start k .pre .1) last))
 
 returns-2 : tie.Need-returns-2
 returns-2 c =
-    let k = c .before .before .before .before in
-    let some : c .before .before .one-less .result .0 ≡ 0 → ⊥ = eqb-false _ _ (sym (c .before .is-none .ensures) ∙ c .if1 .left) in
-    let more : 1 < getD (live (table k)) (at k) noJob .owed .0 = omega (arith, left (c .before .before), owing k) in
-    let j = getD (table k .jobs) (at k) noJob in
-    let less : _≡_ {A = Job} (record { number = j .number; owed = c .before .before .one-less .result; deadline = j .deadline }) (oneLess (getD (live (table k)) (at k) noJob))
-    = (λ i. record { number = j .number; owed = c .before .before .one-less .ensures i; deadline = j .deadline }) ∙ ap oneLess (sym (live-at (table k) (at k) (place k))) in
-    one-changed (table k) (at k) _ (start k .pre .0) (place k)
-    ∙ ap (λ i. tableOf (set (live (table k)) (at k) i)) less
-    ∙ ap tableOf (sym (served-stays _ _ (live (table k)) (found k) (start k .pre .2 _) (start k .pre .1) more))
+    let o = c .before .before .before in
+    let k = o .before .before in
+    let js = live (table k) in
+    let some : getD (o .owing-less .result .jobs) (at k) noJob .owed .0 ≡ 0 → ⊥ = eqb-false _ _ (sym (c .before .is-none .ensures) ∙ c .if1 .left) in
+    let more : 1 < getD js (at k) noJob .owed .0 = omega (arith, left o, some, owing k) in
+    after o ∙ ap (λ l. tableOf (figured l)) (sym (served-stays _ _ js (found k) (start k .pre .3 _) (start k .pre .1) more))
 
 returns-3 : tie.Need-returns-3
 returns-3 c =
-    let t = c .before .before .before .args .t1 in
-    let none = found-nothing _ _ (live t) (sym (c .before .before .find .ensures) ∙ c .enum-told .given .1) in
-    c .before .before .before .pre .0 .filled ∙ ap tableOf (sym (served-others _ (live t) none (c .before .before .before .pre .1)))
+    let start = c .before .before .before in
+    let js = live (start .args .self) in
+    let none = found-nothing _ _ js (sym (c .before .before .find .ensures) ∙ c .enum-told .given .1) in
+    start .pre .0 .filled ∙ ap tableOf (sym (ap figured (served-others _ js none (start .pre .1)) ∙ figured-own js (start .pre .2)))
 
 pub serve-spec : {M : Type 1} → statement M
 serve-spec =
@@ -74,14 +97,13 @@ serve-spec =
     (tie.spec
     (λ c κs. search needs)
     (λ c. search needs)
-    (λ c. omega (arith, place c, start c .pre .0 .few))
-    (λ c. omega (arith, place c, start c .pre .0 .few))
-    (λ c κs. omega (arith, owing (c .before), owed (c .before)))
     (λ c κs. search needs)
-    (λ c κs. (start (c .before .before .before .before) .pre .0, place (c .before .before .before .before)))
+    (λ c κs. (start (c .before) .pre .0, place (c .before), start (c .before) .pre .2, omega (arith, ap (λ l. l .0) (c .of .ensures), owing (c .before))))
+    (λ c. omega (arith, inside c, few c))
+    (λ c. omega (arith, inside c, few c))
+    (λ c κs. search needs)
+    without-requires
     returns
-    (λ c. omega (arith, place (c .before .before .before .before), start (c .before .before .before .before) .pre .0 .few))
-    (λ c. omega (arith, place (c .before .before .before .before), start (c .before .before .before .before) .pre .0 .few))
     (λ c. search needs)
     returns-2
     returns-3)

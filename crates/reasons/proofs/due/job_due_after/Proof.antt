@@ -3,7 +3,7 @@ use mathlib.Core.Path.{sym, _∙_}
 use native.Mathlib.Nat.{le-refl}
 use borrow.Author.Needs.{needs}
 use borrow.Author.Tests.{ltb-true, ltb-false}
-use Rattle.room.specs.Owed.{jobOwes}
+use Rattle.jobs.specs.Figures.{owesBy}
 use Rattle.reasons.proofs.Until.{until-cut, job-still-past, job-still-before}
 use Rattle.reasons.proofs.due.job_due_after.Statement.{statement}
 use Rattle.reasons.proofs.due.job_due_after.Tie as tie
@@ -14,7 +14,7 @@ returns c =
     let start = seen .before .before in
     let job = start .args .job in
     let ahead = ltb-true (start .args .by .0) (job .deadline .0) (sym (seen .before .is-after .ensures) ∙ seen .if1 .taken) in
-    rw (c .earlier-of .ensures) (until-cut (λ D. jobOwes D job) _ _ _ ahead (start .pre) (job-still-before job _))
+    rw (c .earlier-of .ensures) (until-cut (λ D. owesBy D job) _ _ _ ahead (start .pre) (job-still-before job _))
 
 returns-2 : tie.Need-returns-2
 returns-2 c =

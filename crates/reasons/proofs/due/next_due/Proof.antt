@@ -4,7 +4,8 @@ use Rattle.feeds.specs.Feeds.{inUse}
 use Rattle.jobs.specs.Jobs.{live}
 use Rattle.edf.specs.Owed.{owedBy}
 use Rattle.ledger.specs.Books.{bookOf}
-use Rattle.room.specs.Owed.{jobOwes, feedOwes}
+use Rattle.jobs.specs.Figures.{owesBy}
+use Rattle.room.specs.Owed.{feedOwes}
 use Rattle.room.proofs.Owed.{owed-by-is}
 use Rattle.reasons.proofs.Until.{until-both}
 use Rattle.reasons.proofs.due.next_due.Statement.{statement}
@@ -18,7 +19,7 @@ feeds-due-after-requires c κs =
 returns : tie.Need-returns
 returns c =
     let l = c .before .before .args .ledger in
-    until-both (λ D. total (jobOwes D) (live (l .table))) (λ D. total (feedOwes (l .charge) (l .clock .0) D) (inUse (l .feeds))) (owedBy (bookOf l)) _ _ _ _
+    until-both (λ D. total (owesBy D) (live (l .table))) (λ D. total (feedOwes (l .charge) (l .clock .0) D) (inUse (l .feeds))) (owedBy (bookOf l)) _ _ _ _
     (owed-by-is l)
     (c .before .jobs-due-after .ensures)
     (c .feeds-due-after .ensures (l .charge))
