@@ -11,13 +11,15 @@ use lib.Seq.{length-take-le, getD-take, getD-set-same, paste}
 use Rattle.ticks.specs.declared.Instant.{Instant}
 use Rattle.ticks.specs.declared.Length.{Length}
 use Rattle.lists.specs.Lists.{Each, filled, bit}
-use Rattle.lists.proofs.Places.{filled-more, filled-of-unused, filled-without, length-without, take-filled, length-filled, filled-set, unused-of-filled, changed, changed-all}
+use Rattle.lists.proofs.Places.{filled-more, filled-of-unused, filled-without, length-without, take-filled, length-filled, filled-set, unused-of-filled, changed, changed-all, filled-changed-next}
 use Rattle.lists.proofs.Lists.{each-append, total-append}
 use Rattle.jobs.specs.declared.Job.{Job}
 use Rattle.jobs.specs.declared.Table.{Table}
-use Rattle.jobs.specs.Jobs.{noJob, mostJobs, live, tableOf, Tidy, times, JobIn, TableIn, JobsIn}
+use Rattle.jobs.specs.declared.Found.the-variants.{At}
+use Rattle.jobs.specs.Jobs.{noJob, mostJobs, live, tableOf, Tidy, times, foundIn, FoundAt, JobIn, TableIn, JobsIn}
 use Rattle.jobs.specs.Served.{lessJob, owingLess}
 use Rattle.jobs.specs.Figures.{owedBy, figured}
+use Rattle.jobs.proofs.Numbers.{found-first}
 use Rattle.jobs.proofs.Figures.{by, figured-stores, figured-out, length-figured, times-figured, each-figured}
 use Rattle.lists.proofs.Maps.{out, out-set, getD-mapped}
 
@@ -51,6 +53,12 @@ all-places t k =
 -- a live job stands at its place of the array
 pub live-at : (t : Table) (i : ℕ) → i < t .count → getD (live t) i noJob ≡ getD (t .jobs) i noJob
 live-at t i h = getD-take (t .count) (t .jobs) i noJob h
+
+-- a number that is found is found at a live job's place
+pub found-live : (t : Table) (n m : ℕ) → Tidy t → foundIn n 0 (live t) ≡ At m → FoundAt n m (live t) × (m < t .count)
+found-live t n m k e =
+    let f = found-first n m (live t) e in
+    (f, omega (arith, f .inside, live-count t k))
 
 -- one more job, behind the others
 pub one-more :
@@ -88,6 +96,14 @@ one-changed t at j k h =
     let places : set (t .jobs) at j ≡ filled mostJobs noJob (set (live t) at j) =
     (λ i. set (k .filled i .jobs) at j) ∙ filled-set mostJobs noJob (live t) at j (omega arith) in
     λ i. record { count = count i; jobs = places i }
+
+-- job after job is another
+pub next-changed :
+    (t r : Table) (h : Job → Job) (i : ℕ) (j : Job) → Tidy t → r .jobs ≡ filled mostJobs noJob (changed h i (live t)) → i < t .count →
+    j ≡ h (getD (t .jobs) i noJob) → set (r .jobs) i j ≡ filled mostJobs noJob (changed h (i + 1) (live t))
+next-changed t r h i j k e l n =
+    let many = live-count t k in
+    (λ s. set (e s) i ((n ∙ ap h (sym (live-at t i l))) s)) ∙ filled-changed-next mostJobs noJob h noJob (live t) i (omega arith)
 
 -- each job is another
 pub all-changed :

@@ -1,15 +1,14 @@
 -- `jobs::Table::raised` meets its contract: the jobs so far show it too, the others are as they were.
-use mathlib.Core.Path.{_≡_, refl, sym, ap, _∙_}
+use mathlib.Core.Path.{_≡_, refl, ap}
 use Prim.Native.Nat.{_+_, _-_, _≤_, _<_, _^_}
 use native.Mathlib.Omega.{arith}
 use borrow.Author.Needs.{needs}
-use lib.ListN.{length, getD, set}
-use lib.Seq.{getD-take}
+use lib.ListN.{length}
 use Rattle.lists.specs.Lists.{filled}
-use Rattle.lists.proofs.Places.{length-mapped, each-live, changed, filled-changed-next}
+use Rattle.lists.proofs.Places.{length-mapped, each-live, changed}
 use Rattle.jobs.specs.Jobs.{mostJobs, noJob, live}
 use Rattle.jobs.specs.Figures.{owesBy, raised}
-use Rattle.jobs.proofs.Places.{live-count, all-changed}
+use Rattle.jobs.proofs.Places.{next-changed, all-changed}
 use Rattle.jobs.proofs.Table.raised.Statement.{statement}
 use Rattle.jobs.proofs.Table.raised.Tie as tie
 
@@ -37,16 +36,10 @@ raised-requires c κs =
 loop-again : tie.Need-loop-again Inv-loop μ-loop
 loop-again c =
     let start = c .before .before .before .before in
-    let js = live (start .args .t1) in
-    let i = c .before .before .before .loop .i in
-    let inv = c .before .before .before .loop .inv in
-    let test = c .before .before .loop-test .taken in
-    let many : length js ≡ start .args .t1 .count = live-count (start .args .t1) (start .pre .0) in
-    let new : c .raised .result ≡ raised (start .args .job) (getD js i noJob)
-    = c .raised .ensures ∙ ap (raised (start .args .job)) (sym (getD-take (start .args .t1 .count) (start .args .t1 .jobs) i noJob test)) in (
+    let loop = c .before .before .before .loop in (
       omega arith,
-      inv .1,
-      (λ t. set (inv .2 t) i (new t)) ∙ filled-changed-next mostJobs noJob (raised (start .args .job)) noJob js i (omega arith),
+      loop .inv .1,
+      next-changed (start .args .t1) (loop .table) (raised (start .args .job)) (loop .i) (c .raised .result) (start .pre .0) (loop .inv .2) (c .before .before .loop-test .taken) (c .raised .ensures),
     )
 
 returns : tie.Need-returns Inv-loop μ-loop
