@@ -92,8 +92,10 @@ fn with_jobs(feed_count: usize, jobs: u32, charge: u32, early: u32) -> Desk {
 
 fn asking(state: &Desk, name: &str, work: u32, lead: u32, refusal: u32) {
     let mut other = *state;
-    assert_eq!(state.ask(900, work, lead).refusal, refusal, "{name}");
+    let answer = state.ask(900, work, lead);
+    assert_eq!(answer.refusal, refusal, "{name}");
     assert_eq!(plain::ask(&mut other, 900, work, lead), refusal, "{name}, plain");
+    assert!(answer.desk == other, "{name}, the state");
     let library = time(|| {
         black_box(black_box(*state).ask(900, work, lead));
     });
@@ -113,6 +115,9 @@ fn calls(feed_count: usize, jobs: u32, charge: u32, early: u32) {
     asking(&state, &at("ask taken"), 10, 20_000, 0);
     asking(&state, &at("ask refused near"), 3, 2, 6);
     asking(&state, &at("ask refused far"), 30_000, 30_000 - 1, 6);
+    let (step, mut other) = (state.step(), state);
+    assert_eq!(plain::step(&mut other), (step.refusal, step.kind, step.number), "{}", at("step"));
+    assert!(step.desk == other, "{}, the state", at("step"));
     let library = time(|| {
         black_box(black_box(state).step());
     });
@@ -123,6 +128,9 @@ fn calls(feed_count: usize, jobs: u32, charge: u32, early: u32) {
     });
     row(&at("step"), library, own);
     if jobs > 0 {
+        let (answer, mut other) = (state.end(jobs / 2 + 1), state);
+        assert_eq!(plain::end(&mut other, jobs / 2 + 1), answer.refusal, "{}", at("end"));
+        assert!(answer.desk == other, "{}, the state", at("end"));
         let library = time(|| {
             black_box(black_box(state).end(jobs / 2 + 1));
         });
@@ -161,6 +169,7 @@ fn day() {
         assert_eq!(plain::step(&mut two), named[tick as usize], "tick {tick}");
     }
     let own = (now() - began) / 1e9;
+    assert!(one == two, "the state at the end of the day");
     println!("\nA day of 86,400 ticks, 4 feeds, a request every 50 ticks, each step with its check of the state:");
     println!("{:.0} ticks a second, plain {:.0}, ratio {:.2}.", 86_400.0 / library, 86_400.0 / own, library / own);
 }
@@ -324,6 +333,7 @@ fn slowest(early: bool) {
         let began = now();
         assert_eq!(plain::ask(&mut other, 900, 1, 65_536), answer.refusal);
         let own = (now() - began) / 1e6;
+        assert!(answer.desk == other, "{name}, the state");
         asks = slower(asks, (library, own, format!("{name} before it, answer {}", answer.refusal)));
         let began = now();
         let step = black_box(state).step();
@@ -332,6 +342,7 @@ fn slowest(early: bool) {
         let began = now();
         assert_eq!(plain::step(&mut other), (step.refusal, step.kind, step.number));
         let own = (now() - began) / 1e6;
+        assert!(step.desk == other, "{name}, the state");
         steps = slower(steps, (library, own, name));
     }
     let due = if early { ", layers due before the next" } else { "" };

@@ -103,9 +103,10 @@ fn jobs_in_order(desk: &Desk) -> bool {
             && job.deadline - desk.clock <= LONGEST_LEAD
             && job.deadline <= LAST_INSTANT
     };
-    let empty = |job: &Job| job.number == 0 && job.owed == 0 && job.deadline == 0;
+    let empty = |job: &Job| *job == Job::default();
     jobs.iter().all(within)
         && jobs.iter().enumerate().all(|(i, job)| jobs[i + 1..].iter().all(|other| other.number != job.number))
+        && jobs.iter().all(|job| job.figure == jobs_owe(desk, job.deadline))
         && desk.table.jobs[desk.table.count..].iter().all(empty)
 }
 
@@ -113,8 +114,12 @@ fn in_order(desk: &Desk) -> bool {
     desk.clock <= LAST_INSTANT && desk.charge <= HIGHEST_CHARGE && feeds_in_order(desk) && jobs_in_order(desk)
 }
 
+/// What the live jobs due by an instant owe together.
+fn jobs_owe(desk: &Desk, by: u64) -> u64 {
+    jobs_of(desk).iter().map(|job| if job.deadline <= by { job.owed } else { 0 }).sum()
+}
+
 fn owed_by(desk: &Desk, by: u64) -> u64 {
-    let jobs: u64 = jobs_of(desk).iter().filter(|job| job.deadline <= by).map(|job| job.owed).sum();
     let feeds: u64 = feeds_of(desk)
         .iter()
         .map(|feed| {
@@ -124,7 +129,7 @@ fn owed_by(desk: &Desk, by: u64) -> u64 {
             current + (feed.work + desk.charge) * later
         })
         .sum();
-    jobs + feeds
+    jobs_owe(desk, by) + feeds
 }
 
 fn fits(desk: &Desk) -> bool {
@@ -167,21 +172,37 @@ pub fn ask(desk: &mut Desk, number: u32, work: u32, lead: u32) -> u32 {
         return 5;
     }
     let at = desk.table.count;
-    desk.table.jobs[at] = Job { number, owed: work + desk.charge, deadline: desk.clock + lead };
+    let (owed, deadline) = (work + desk.charge, desk.clock + lead);
+    desk.table.jobs[at] = Job { number, owed, deadline, figure: jobs_owe(desk, deadline) + owed };
     desk.table.count += 1;
     if fits(desk) {
+        for job in &mut desk.table.jobs[..at] {
+            if job.deadline >= deadline {
+                job.figure += owed;
+            }
+        }
         return 0;
     }
     desk.table.count -= 1;
-    desk.table.jobs[at] = Job { number: 0, owed: 0, deadline: 0 };
+    desk.table.jobs[at] = Job::default();
     6
 }
 
-fn out(desk: &mut Desk, at: usize) {
+/// So many ticks of the job there are owed no more; those due no earlier show so many fewer, and it leaves with its last.
+fn less(desk: &mut Desk, at: usize, ticks: u64) {
     let count = desk.table.count;
-    desk.table.jobs.copy_within(at + 1..count, at);
-    desk.table.jobs[count - 1] = Job { number: 0, owed: 0, deadline: 0 };
-    desk.table.count = count - 1;
+    let deadline = desk.table.jobs[at].deadline;
+    for job in &mut desk.table.jobs[..count] {
+        if job.deadline >= deadline {
+            job.figure -= ticks;
+        }
+    }
+    desk.table.jobs[at].owed -= ticks;
+    if desk.table.jobs[at].owed == 0 {
+        desk.table.jobs.copy_within(at + 1..count, at);
+        desk.table.jobs[count - 1] = Job::default();
+        desk.table.count = count - 1;
+    }
 }
 
 pub fn end(desk: &mut Desk, number: u32) -> u32 {
@@ -192,7 +213,7 @@ pub fn end(desk: &mut Desk, number: u32) -> u32 {
         Some(at) => at,
         None => return 7,
     };
-    out(desk, at);
+    less(desk, at, desk.table.jobs[at].owed);
     0
 }
 
@@ -219,10 +240,7 @@ pub fn tick(desk: &mut Desk) -> (u32, u32, u32) {
         .min();
     let named = match (job, feed) {
         (Some((due, number, at)), other) if other.map_or(true, |(d, _)| due <= d) => {
-            desk.table.jobs[at].owed -= 1;
-            if desk.table.jobs[at].owed == 0 {
-                out(desk, at);
-            }
+            less(desk, at, 1);
             (0, 1, number)
         }
         (_, Some((_, at))) => {

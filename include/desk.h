@@ -19,7 +19,7 @@ extern "C" {
 #endif
 
 /* One more with every change of a struct, a call or a number below. */
-#define DESK_VERSION 3
+#define DESK_VERSION 4
 
 /* An instant is a reading of the clock, a whole number of ticks; this is the last one, 2 to the 40th. */
 #define DESK_LAST_INSTANT UINT64_C(1099511627776)
@@ -40,7 +40,7 @@ enum {
 /* How many numbers or bytes there are of each thing in a lent list. */
 enum {
     DESK_NUMBERS_A_FEED = 4,      /* in the list of an opening: period, work, offset, deadline length */
-    DESK_NUMBERS_A_JOB = 3,       /* in the buffer of a list: number, owed, deadline */
+    DESK_NUMBERS_A_JOB = 4,       /* in the buffer of a list: number, owed, deadline, figure */
     DESK_BYTES_OF_FRONT = 84,     /* of a mesh file: its header of 80 and its triangle count */
     DESK_BYTES_A_JOB_LABEL = 12,  /* the job's number, big-endian in 4, and its label in 8 */
     DESK_BYTES_A_FEED_LABEL = 8
@@ -60,7 +60,7 @@ enum {
     DESK_ROUND_TOO_LONG = 9,      /* round above 40,320 */
     DESK_TOO_MUCH_LOAD = 10,      /* in some stretch of ticks the feeds alone, released together, charges and all, want more
                                    * than it has */
-    DESK_SHORT_BUFFER = 11,       /* buffer shorter than three numbers a live job */
+    DESK_SHORT_BUFFER = 11,       /* buffer shorter than four numbers a live job */
     DESK_NOT_WHOLE_FEEDS = 12,    /* feed list length not a multiple of 4 */
     DESK_NOT_IN_ORDER = 13,       /* state not in order */
     DESK_SHORT_FRONT = 15,        /* fewer than 84 bytes lent of a mesh file */
@@ -92,11 +92,13 @@ typedef struct DeskFeeds {
     DeskFeed feeds[DESK_MOST_FEEDS];
 } DeskFeeds;
 
-/* A job still owes `owed` ticks, of its work and the charge, before the instant `deadline`. */
+/* A job still owes `owed` ticks, of its work and the charge, before the instant `deadline`. `figure` is what all live jobs
+ * due no later still owe together, itself included, so that two that are due together have the same. */
 typedef struct DeskJob {
     uint32_t number;
     uint64_t owed;
     uint64_t deadline;
+    uint64_t figure;
 } DeskJob;
 
 /* The live jobs stand at the front, in the order of their yes; the places after them are all zero. */
@@ -178,21 +180,22 @@ DESK_PLACE(DeskFeed, owes, 32);
 DESK_SIZE(DeskFeeds, 648);
 DESK_PLACE(DeskFeeds, count, 0);
 DESK_PLACE(DeskFeeds, feeds, 8);
-DESK_SIZE(DeskJob, 24);
+DESK_SIZE(DeskJob, 32);
 DESK_PLACE(DeskJob, number, 0);
 DESK_PLACE(DeskJob, owed, 8);
 DESK_PLACE(DeskJob, deadline, 16);
-DESK_SIZE(DeskTable, 1544);
+DESK_PLACE(DeskJob, figure, 24);
+DESK_SIZE(DeskTable, 2056);
 DESK_PLACE(DeskTable, count, 0);
 DESK_PLACE(DeskTable, jobs, 8);
-DESK_SIZE(Desk, 2208);
+DESK_SIZE(Desk, 2720);
 DESK_PLACE(Desk, clock, 0);
 DESK_PLACE(Desk, charge, 8);
 DESK_PLACE(Desk, feeds, 16);
 DESK_PLACE(Desk, table, 664);
-DESK_SIZE(DeskAnswer, 2216);
+DESK_SIZE(DeskAnswer, 2728);
 DESK_PLACE(DeskAnswer, desk, 0);
-DESK_PLACE(DeskAnswer, refusal, 2208);
+DESK_PLACE(DeskAnswer, refusal, 2720);
 DESK_SIZE(DeskReason, 48);
 DESK_PLACE(DeskReason, refusal, 0);
 DESK_PLACE(DeskReason, at, 8);
@@ -200,12 +203,12 @@ DESK_PLACE(DeskReason, jobs, 16);
 DESK_PLACE(DeskReason, feeds, 24);
 DESK_PLACE(DeskReason, job, 32);
 DESK_PLACE(DeskReason, margin, 40);
-DESK_SIZE(DeskStepped, 2232);
+DESK_SIZE(DeskStepped, 2744);
 DESK_PLACE(DeskStepped, desk, 0);
-DESK_PLACE(DeskStepped, refusal, 2208);
-DESK_PLACE(DeskStepped, kind, 2212);
-DESK_PLACE(DeskStepped, number, 2216);
-DESK_PLACE(DeskStepped, owes, 2224);
+DESK_PLACE(DeskStepped, refusal, 2720);
+DESK_PLACE(DeskStepped, kind, 2724);
+DESK_PLACE(DeskStepped, number, 2728);
+DESK_PLACE(DeskStepped, owes, 2736);
 DESK_SIZE(DeskListed, 8);
 DESK_PLACE(DeskListed, refusal, 0);
 DESK_PLACE(DeskListed, count, 4);
@@ -245,7 +248,7 @@ DeskAnswer desk_end(Desk desk, uint32_t number);
 /* Rests a feed, by its position from 1 to 16: its current piece owes nothing, the next comes at its time. 13, 7. */
 DeskAnswer desk_rest(Desk desk, uint32_t position);
 
-/* Writes the live jobs into the front of a buffer of `length` numbers, three a job (number, owed, deadline), earliest
+/* Writes the live jobs into the front of a buffer of `length` numbers, four a job (number, owed, deadline, figure), earliest
  * deadline first and lower number first on equal ones; the rest of the buffer is untouched. 13, 11. */
 DeskListed desk_list(Desk desk, uint64_t *buffer, size_t length);
 

@@ -6,7 +6,7 @@
 // A program uses what it needs.
 #![allow(dead_code)]
 
-pub const VERSION: u32 = 3;
+pub const VERSION: u32 = 4;
 
 pub const LAST_INSTANT: u64 = 1 << 40;
 pub const MOST_JOBS: usize = 64;
@@ -18,7 +18,7 @@ pub const LONGEST_ROUND: u64 = 40_320;
 pub const HIGHEST_CHARGE: u64 = 16;
 
 pub const NUMBERS_A_FEED: usize = 4;
-pub const NUMBERS_A_JOB: usize = 3;
+pub const NUMBERS_A_JOB: usize = 4;
 pub const BYTES_OF_FRONT: usize = 84;
 pub const BYTES_A_JOB_LABEL: usize = 12;
 pub const BYTES_A_FEED_LABEL: usize = 8;
@@ -72,6 +72,7 @@ pub struct Job {
     pub number: u32,
     pub owed: u64,
     pub deadline: u64,
+    pub figure: u64,
 }
 
 #[derive(Clone, Copy, Debug, PartialEq, Eq)]

@@ -62,9 +62,11 @@ static Desk stepped(Desk desk) {
 static void listed(Desk desk) {
     uint64_t buffer[DESK_NUMBERS_A_JOB * DESK_MOST_JOBS];
     DeskListed list = desk_list(desk, buffer, DESK_NUMBERS_A_JOB * DESK_MOST_JOBS);
-    for (uint32_t i = 0; i < list.count; i++)
-        printf("live: job %llu owes %llu by %llu\n", (unsigned long long)buffer[3 * i],
-               (unsigned long long)buffer[3 * i + 1], (unsigned long long)buffer[3 * i + 2]);
+    for (uint32_t i = 0; i < list.count; i++) {
+        const uint64_t *job = buffer + DESK_NUMBERS_A_JOB * i;
+        printf("live: job %llu owes %llu by %llu, figure %llu\n", (unsigned long long)job[0],
+               (unsigned long long)job[1], (unsigned long long)job[2], (unsigned long long)job[3]);
+    }
 }
 
 static void labelled(Desk desk) {
@@ -99,6 +101,7 @@ int main(void) {
         desk = stepped(desk);
     desk = asked_with_mesh(desk, 617284, 3, 40); /* its last triangle is missing */
     desk = asked_with_mesh(desk, 617334, 3, 40);
+    desk = asked(desk, 4, 2, 40); /* due together with job 3: both show what the two of them owe */
     listed(desk);
     desk.clock = desk.clock + 1000000;
     desk.table.count = DESK_MOST_JOBS + 1;

@@ -62,7 +62,7 @@ fn listed(desk: Desk) {
     let mut buffer = [0; desk::NUMBERS_A_JOB * desk::MOST_JOBS];
     let list = desk.list(&mut buffer);
     for job in buffer.chunks(desk::NUMBERS_A_JOB).take(list.count as usize) {
-        println!("live: job {} owes {} by {}", job[0], job[1], job[2]);
+        println!("live: job {} owes {} by {}, figure {}", job[0], job[1], job[2], job[3]);
     }
 }
 
@@ -96,6 +96,7 @@ fn main() {
     }
     desk = asked_with_mesh(desk, 617_284, 3, 40); // its last triangle is missing
     desk = asked_with_mesh(desk, 617_334, 3, 40);
+    desk = asked(desk, 4, 2, 40); // due together with job 3: both show what the two of them owe
     listed(desk);
     desk.clock += 1_000_000;
     desk.table.count = desk::MOST_JOBS + 1;

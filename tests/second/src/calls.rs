@@ -72,7 +72,7 @@ enum Said {
 }
 
 const FRONT_MOST: usize = 100;
-const LIST_MOST: usize = 3 * 64 + 5;
+const LIST_MOST: usize = 4 * 64 + 5;
 const JOB_LABELS_MOST: usize = 12 * 70 + 11;
 const FEED_LABELS_MOST: usize = 8 * 17 + 7;
 const GUARD: usize = 16;
@@ -230,6 +230,9 @@ impl Walk<'_> {
             if self.random.chance(10) {
                 self.on_an_overbooked_copy(desk)?;
             }
+            if self.random.chance(15) {
+                self.on_a_copy_with_other_figures(desk)?;
+            }
             if self.random.chance(25) {
                 self.meshes_on_an_empty_desk(desk.clock)?;
             }
@@ -333,10 +336,12 @@ impl Walk<'_> {
 
     fn some_list(&mut self, state: &model::Desk) -> Call {
         self.lengths += 1;
-        let length = if self.random.chance(50) {
-            self.lengths % (LIST_MOST + 1)
-        } else {
-            (3 * state.jobs.len() + self.random.index(4)).saturating_sub(2)
+        let jobs = state.jobs.len();
+        let length = match self.random.below(100) {
+            0..=49 => self.lengths % (LIST_MOST + 1),
+            // Enough for three numbers a job, and mostly not for four.
+            50..=64 => 3 * jobs + self.random.index(jobs + 1),
+            _ => (4 * jobs + self.random.index(4)).saturating_sub(2),
         };
         Call::List {
             length: length.min(LIST_MOST),
@@ -449,6 +454,19 @@ impl Walk<'_> {
         for _ in 0..self.random.between(1, 4) {
             let call = self.some_call(&damaged);
             self.call(damaged, call)?;
+        }
+        Ok(())
+    }
+
+    /// With more jobs than there is time for, many of them due together, and figures of
+    /// which one or more mostly do not agree: then every call says so.
+    fn on_a_copy_with_other_figures(&mut self, desk: Desk) -> Result<(), String> {
+        let mut other = desk;
+        overbook(&mut self.random, &mut other);
+        another_figure(&mut self.random, &mut other);
+        for _ in 0..self.random.between(1, 4) {
+            let call = self.some_call(&other);
+            self.call(other, call)?;
         }
         Ok(())
     }
@@ -611,16 +629,26 @@ fn overbook_jobs(random: &mut Random, state: &mut model::Desk) {
         }
     }
     for _ in 0..random.pick(&[0, 1, 1, 3, 10, 100]) {
-        let job = model::Job {
+        let mut job = model::Job {
             number: random.between(1, 300) as u32,
             owed: random.pick(&[1, 1, 2, 3, 10, 1_000, 65_536, most]),
             deadline: clock + random.between(1, near),
+            figure: 0,
         };
+        if !state.jobs.is_empty() && random.chance(30) {
+            // Due together with another.
+            job.deadline = state.jobs[random.index(state.jobs.len())].deadline;
+        }
         let known = state.jobs.iter().any(|other| other.number == job.number);
         if !known && state.jobs.len() < 64 {
             state.jobs.push(job);
         }
     }
+    if random.chance(5) {
+        // As much as figures can be of so many.
+        state.jobs.iter_mut().for_each(|job| job.owed = most);
+    }
+    state.add_up();
 }
 
 /// At an instant just before a piece is due, which owes as much as can be: with jobs
@@ -654,6 +682,7 @@ fn move_to(random: &mut Random, state: &mut model::Desk, clock: u64) {
         job.deadline = job.deadline - state.clock + clock;
     }
     state.jobs.retain(|job| job.deadline <= LAST_INSTANT);
+    state.add_up();
     state.clock = clock;
 }
 
@@ -680,7 +709,7 @@ fn move_on(random: &mut Random, desk: &mut Desk) {
 
 /// One thing wrong; sometimes one field set to a value just inside its limits.
 fn damage(random: &mut Random, desk: &mut Desk) {
-    match random.below(20) {
+    match random.below(24) {
         0 => desk.feeds.count = random.pick(&[17, 18, 256, usize::MAX, desk.feeds.count + 1]),
         1 => desk.table.count = random.pick(&[65, 66, 256, usize::MAX, desk.table.count + 1]),
         2 => number_twice(desk),
@@ -691,7 +720,7 @@ fn damage(random: &mut Random, desk: &mut Desk) {
             // Garbage behind the live ones.
             let job =
                 &mut desk.table.jobs[random.between(desk.table.count.min(63) as u64, 63) as usize];
-            set_job(job, random.below(3), 1);
+            set_job(job, random.below(4), 1);
         }
         7 => {
             let feed =
@@ -702,8 +731,126 @@ fn damage(random: &mut Random, desk: &mut Desk) {
         10..=11 => owing_all_or_more(random, desk),
         12..=13 => another_lead(random, desk),
         14..=15 => at_a_deadline(random, desk),
+        16..=17 => another_figure(random, desk),
+        18..=19 => owing_past_all_numbers(random, desk),
         _ => one_field(random, desk),
     }
+}
+
+/// Makes the figures agree with what is owed, whether or not that is in order. A sum
+/// that is too high for 64 bits goes round.
+pub fn add_up(desk: &mut Desk) {
+    let count = desk.table.count.min(64);
+    let figures = figures_by(Rule::DueNoLater, &desk.table.jobs[..count]);
+    for (job, figure) in desk.table.jobs.iter_mut().zip(figures) {
+        job.figure = figure;
+    }
+}
+
+/// What a job's figure adds up: the document's rule, and others.
+#[derive(Clone, Copy, Debug, PartialEq, Eq)]
+pub enum Rule {
+    DueNoLater,
+    /// Those before it in the table, and itself.
+    UpToItsPlace,
+    /// Those before it in the list, and itself.
+    UpToItsLine,
+    /// Those due earlier, and itself.
+    DueEarlier,
+    DueNoEarlier,
+    WithoutItself,
+    ItselfAlone,
+    All,
+}
+
+/// The likelier ones twice.
+const OTHER_RULES: [Rule; 10] = [
+    Rule::UpToItsPlace,
+    Rule::UpToItsPlace,
+    Rule::UpToItsLine,
+    Rule::UpToItsLine,
+    Rule::DueEarlier,
+    Rule::DueEarlier,
+    Rule::DueNoEarlier,
+    Rule::WithoutItself,
+    Rule::ItselfAlone,
+    Rule::All,
+];
+
+/// The figures of these jobs by this rule.
+pub fn figures_by(rule: Rule, jobs: &[Job]) -> Vec<u64> {
+    let counts = |place: usize, other: usize| {
+        let (job, by, itself) = (&jobs[place], &jobs[other], place == other);
+        match rule {
+            Rule::DueNoLater => by.deadline <= job.deadline,
+            Rule::UpToItsPlace => other <= place,
+            Rule::UpToItsLine => (by.deadline, by.number) <= (job.deadline, job.number),
+            Rule::DueEarlier => by.deadline < job.deadline || itself,
+            Rule::DueNoEarlier => by.deadline >= job.deadline,
+            Rule::WithoutItself => by.deadline <= job.deadline && !itself,
+            Rule::ItselfAlone => itself,
+            Rule::All => true,
+        }
+    };
+    let figure = |place| {
+        let counted = (0..jobs.len()).filter(|other| counts(place, *other));
+        counted.fold(0, |sum: u64, other| sum.wrapping_add(jobs[other].owed))
+    };
+    (0..jobs.len()).map(figure).collect()
+}
+
+/// A figure that mostly does not agree, or more of them.
+fn another_figure(random: &mut Random, desk: &mut Desk) {
+    let count = desk.table.count.min(64);
+    if count == 0 || random.chance(5) {
+        let unused = random.between(count.min(63) as u64, 63) as usize;
+        desk.table.jobs[unused].figure = random.pick(&[1, 1, 65_536, 1 << 63, u64::MAX]);
+        return;
+    }
+    let jobs = &mut desk.table.jobs[..count];
+    let (place, other) = (random.index(count), random.index(count));
+    let figure = jobs[place].figure;
+    jobs[place].figure = match random.below(10) {
+        0 => figure.wrapping_add(1),
+        1 => figure.wrapping_sub(1),
+        2 => 0,
+        3 => jobs[other].figure,
+        // Alike in the low bits.
+        4 => figure ^ random.pick(&[1 << 32, 1 << 63, 1 << 31, 1 << 16]),
+        5 => random.pick(&[1 << 63, u64::MAX, u64::MAX - 1, 1 << 32, 64 * 65_552]),
+        // One or all by another rule.
+        6..=7 => figures_by(random.pick(&OTHER_RULES), jobs)[place],
+        8 => {
+            let figures = figures_by(random.pick(&OTHER_RULES), jobs);
+            for (job, figure) in jobs.iter_mut().zip(&figures) {
+                job.figure = *figure;
+            }
+            figures[place]
+        }
+        // Two that are off by as much.
+        _ => {
+            jobs[other].figure = jobs[other].figure.wrapping_sub(1);
+            jobs[place].figure.wrapping_add(1)
+        }
+    };
+}
+
+/// Jobs that owe so much that their sums, gone round, are as low as they should be:
+/// what is owed has to be bounded before it is added up.
+fn owing_past_all_numbers(random: &mut Random, desk: &mut Desk) {
+    let count = desk.table.count.min(64);
+    if count == 0 {
+        return one_field(random, desk);
+    }
+    let (place, other) = (random.index(count), random.index(count));
+    let some = random.between(1, 9);
+    let jobs = &mut desk.table.jobs;
+    jobs[place].owed = random.pick(&[u64::MAX, 0u64.wrapping_sub(some), (1 << 63) + some]);
+    if random.chance(70) {
+        jobs[other].deadline = jobs[place].deadline;
+        jobs[other].owed = 0u64.wrapping_sub(jobs[place].owed) + some;
+    }
+    add_up(desk);
 }
 
 /// A deadline length outside its limits, or about as short as line 10 allows; now and
@@ -771,9 +918,18 @@ fn owing_all_or_more(random: &mut Random, desk: &mut Desk) {
     let (feeds, jobs) = (desk.feeds.count.min(16), desk.table.count.min(64));
     if jobs > 0 && random.chance(50) {
         desk.table.jobs[random.index(jobs)].owed = JOB_LENGTH_MOST + more;
+        add_up_mostly(random, desk);
     } else if feeds > 0 {
         let feed = &mut desk.feeds.feeds[random.index(feeds)];
         feed.owes = feed.work + more;
+    }
+}
+
+/// After a change of what jobs owe or by when: else their figures would be wrong too,
+/// and hide what is.
+fn add_up_mostly(random: &mut Random, desk: &mut Desk) {
+    if random.chance(80) {
+        add_up(desk);
     }
 }
 
@@ -784,6 +940,7 @@ fn number_twice(desk: &mut Desk) {
     } else if count == 1 && desk.table.jobs[0].deadline > desk.clock {
         desk.table.jobs[1] = desk.table.jobs[0];
         desk.table.count = 2;
+        add_up(desk);
     }
 }
 
@@ -874,8 +1031,11 @@ fn one_field(random: &mut Random, desk: &mut Desk) {
         }
         _ => {
             let among = desk.table.count.clamp(1, 64);
-            let job = &mut desk.table.jobs[random.index(among)];
-            set_job(job, random.below(3), value);
+            let field = random.below(4);
+            set_job(&mut desk.table.jobs[random.index(among)], field, value);
+            if field < 3 {
+                add_up_mostly(random, desk);
+            }
         }
     }
 }
@@ -894,7 +1054,8 @@ fn set_job(job: &mut Job, field: u64, value: u64) {
     match field {
         0 => job.number = value as u32,
         1 => job.owed = value,
-        _ => job.deadline = value,
+        2 => job.deadline = value,
+        _ => job.figure = value,
     }
 }
 

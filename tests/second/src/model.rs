@@ -58,6 +58,8 @@ pub struct Job {
     pub number: u32,
     pub owed: Length,
     pub deadline: Instant,
+    /// What all live jobs due no later still owe together, itself included.
+    pub figure: Length,
 }
 
 /// The desk's state. Jobs stand in the order of their yes.
@@ -329,6 +331,27 @@ impl Desk {
                     && job.deadline - self.clock <= JOB_LENGTH_MOST
                     && job.deadline <= LAST_INSTANT
             })
+            && self.figures_agree()
+    }
+
+    /// Asked only of jobs that each owe no more than they may, so that no sum is too long.
+    fn figures_agree(&self) -> bool {
+        let agrees = |job: &Job| job.figure == self.owed_by(job.deadline);
+        self.jobs.iter().all(agrees)
+    }
+
+    /// What the jobs due at or before an instant owe together.
+    fn owed_by(&self, instant: Instant) -> Length {
+        let due = self.jobs.iter().filter(|job| job.deadline <= instant);
+        due.map(|job| job.owed).sum()
+    }
+
+    /// Every figure afresh, whatever it was. A call that changes what jobs owe ends
+    /// with this: none adds to a figure or takes away from one.
+    pub fn add_up(&mut self) {
+        for place in 0..self.jobs.len() {
+            self.jobs[place].figure = self.owed_by(self.jobs[place].deadline);
+        }
     }
 
     fn live(&self, number: u32) -> Option<usize> {
@@ -361,7 +384,9 @@ impl Desk {
             number,
             owed: work + self.charge,
             deadline: self.clock + lead,
+            figure: 0,
         });
+        taken.add_up();
         if ahead::never_late(&taken) {
             Ok(taken)
         } else {
@@ -438,6 +463,7 @@ impl Desk {
                 feed.owes = 0;
             }
         }
+        self.add_up();
         Ran { runner, owes }
     }
 
@@ -472,6 +498,7 @@ impl Desk {
         let place = self.live(number).ok_or(NO_SUCH)?;
         let mut next = self.clone();
         next.jobs.remove(place);
+        next.add_up();
         Ok(next)
     }
 
@@ -490,18 +517,18 @@ impl Desk {
         Ok(next)
     }
 
-    /// Listing: 13, 11. Three numbers a job into the front of the buffer.
+    /// Listing: 13, 11. Four numbers a job into the front of the buffer.
     pub fn list(&self, buffer: &mut [u64]) -> Result<u32, Refusal> {
         if !self.in_order() {
             return Err(NOT_IN_ORDER);
         }
-        if buffer.len() < 3 * self.jobs.len() {
+        if buffer.len() < 4 * self.jobs.len() {
             return Err(BUFFER_TOO_SHORT);
         }
         let mut jobs = self.jobs.clone();
         jobs.sort_by_key(|job| (job.deadline, job.number));
-        for (three, job) in buffer.chunks_mut(3).zip(&jobs) {
-            three.copy_from_slice(&[job.number.into(), job.owed, job.deadline]);
+        for (four, job) in buffer.chunks_mut(4).zip(&jobs) {
+            four.copy_from_slice(&[job.number.into(), job.owed, job.deadline, job.figure]);
         }
         Ok(jobs.len() as u32)
     }

@@ -47,11 +47,13 @@ fn model_job(job: &Job) -> model::Job {
         number,
         owed,
         deadline,
+        figure,
     } = *job;
     model::Job {
         number,
         owed,
         deadline,
+        figure,
     }
 }
 
@@ -85,11 +87,13 @@ pub fn write(state: &model::Desk) -> Desk {
             number,
             owed,
             deadline,
+            figure,
         } = *job;
         *place = Job {
             number,
             owed,
             deadline,
+            figure,
         };
     }
     desk

@@ -2,11 +2,13 @@
 //! kind of bad line, each band of a mesh, the reasons against a slower way of
 //! adding up, the rehearsal ahead against two slower ways of knowing, and the
 //! comparing of calls against libraries with one fault planted. What the charge
-//! changes is in `charge` and what deadlines before the next release change in
-//! `deadlines`, but random states here are under any charge, and with any deadlines.
+//! changes is in `charge`, what deadlines before the next release change in
+//! `deadlines` and what the figure changes in `figure`, but random states here are
+//! under any charge, and with any deadlines.
 
 mod charge;
 mod deadlines;
+mod figure;
 
 use crate::ahead;
 use crate::boundary::{self, Answer, Label, Library, Listed, Stepped};
@@ -29,6 +31,22 @@ fn said(input: &str) -> String {
 
 fn x() -> Desk {
     open(&[4, 1, 0, 4, 6, 2, 0, 6], 0, 0).unwrap()
+}
+
+/// A job whose figure is still to be added up.
+fn job(number: u32, owed: Length, deadline: Instant) -> Job {
+    Job {
+        number,
+        owed,
+        deadline,
+        figure: 0,
+    }
+}
+
+/// The state with figures that agree.
+fn figured(mut desk: Desk) -> Desk {
+    desk.add_up();
+    desk
 }
 
 // ---------------------------------------------------------------- the document
@@ -196,7 +214,7 @@ fn refusals_elsewhere() {
     let not_come = open(&[4, 1, 3, 4], 0, 0).unwrap();
     assert_eq!(not_come.rest(1).err(), Some(7));
     let one = x().ask(9, 1, 50).unwrap();
-    assert_eq!(one.list(&mut [0; 2]).err(), Some(11));
+    assert_eq!(one.list(&mut [0; 3]).err(), Some(11));
     let mut late = one.clone();
     late.jobs[0].deadline = late.clock;
     assert_eq!(late.step().err(), Some(13));
@@ -588,17 +606,12 @@ fn other_refusals_come_with_their_number_alone() {
 /// job's deadline may come after, so that it owes nothing by then.
 #[test]
 fn reasons_on_an_overbooked_state() {
-    let job = |number, owed, deadline| Job {
-        number,
-        owed,
-        deadline,
-    };
-    let desk = Desk {
+    let desk = figured(Desk {
         clock: 10,
         charge: 0,
         feeds: x().feeds,
         jobs: vec![job(5, 9, 20), job(4, 3, 12), job(6, 1, 11)],
-    };
+    });
     assert!(desk.in_order());
     // By 12 the jobs owe 1 + 3 and both current pieces are due, 1 + 2.
     assert_eq!(desk.why(1, 7, 3), overbooked(12, 4, 3, 0, -5));
@@ -606,12 +619,12 @@ fn reasons_on_an_overbooked_state() {
     assert_eq!(desk.why(1, 1, 1), overbooked(11, 1, 0, 1, -1));
     assert_eq!(desk.why(1, 65_536, 65_536), overbooked(12, 4, 3, 0, -5));
     let jobs = (1..=63).map(|number| job(number, 65_536, LAST_INSTANT));
-    let most = Desk {
+    let most = figured(Desk {
         clock: LAST_INSTANT - 1,
         charge: 0,
         feeds: Vec::new(),
         jobs: jobs.collect(),
-    };
+    });
     let (all, margin) = (63 * 65_536, 1 - 64 * 65_536);
     let why = most.why(64, 65_536, 1);
     assert_eq!(why, overbooked(LAST_INSTANT, all, 0, 65_536, margin));
@@ -738,11 +751,6 @@ fn a_step_tells_what_is_owed_before_a_release() {
 
 #[test]
 fn a_late_job_stays_and_a_late_piece_gives_way() {
-    let job = |number, deadline| Job {
-        number,
-        owed: 2,
-        deadline,
-    };
     let feed = Feed {
         period: 2,
         work: 2,
@@ -750,11 +758,11 @@ fn a_late_job_stays_and_a_late_piece_gives_way() {
         lead: 2,
         owes: 2,
     };
-    let desk = Desk {
+    let desk = figured(Desk {
         feeds: vec![feed],
-        jobs: vec![job(5, 1), job(4, 1)],
+        jobs: vec![job(5, 2, 1), job(4, 2, 1)],
         ..Desk::default()
-    };
+    });
     assert!(desk.in_order());
     assert_eq!(desk.ask(1, 1, 65_536).err(), Some(6));
     let (late, ran) = desk.step().unwrap();
@@ -805,9 +813,10 @@ fn listing_and_labels() {
         .unwrap()
         .ask(258, 1, 1)
         .unwrap();
-    let mut buffer = [77; 11];
+    let mut buffer = [77; 14];
     assert_eq!(desk.list(&mut buffer), Ok(3));
-    assert_eq!(buffer, [258, 1, 1, 2, 1, 50, 9, 1, 50, 77, 77]);
+    let expected = [258, 1, 1, 1, 2, 1, 50, 3, 9, 1, 50, 3, 77, 77];
+    assert_eq!(buffer, expected);
     let records = [
         0, 0, 2, 1, 1, 1, 1, 1, 1, 1, 1, 1, 0, 0, 1, 2, 2, 2, 2, 2, 2, 2, 2, 2,
     ];
@@ -882,7 +891,7 @@ fn damaged_states_are_not_in_order() {
         desk.feeds[1].owes = 1;
         assert!(desk.in_order());
         damage(&mut desk);
-        assert!(!desk.in_order(), "damage {which}");
+        assert!(!figured(desk).in_order(), "damage {which}");
     }
 }
 
@@ -893,6 +902,10 @@ fn unused_places_must_be_zero() {
     for place in 1..64 {
         let mut desk = good;
         desk.table.jobs[place].deadline = 1;
+        assert!(read(&desk).is_none());
+        desk.table.jobs[place] = boundary::Job::default();
+        assert!(read(&desk).is_some());
+        desk.table.jobs[place].figure = 1;
         assert!(read(&desk).is_none());
     }
     for count in [17, usize::MAX] {
@@ -1147,19 +1160,15 @@ fn small_state(random: &mut Random, periods: &[u64], lead: u64) -> Desk {
         let jobs = (1..=random.below(4) as u32).map(|number| {
             let lead = random.between(1, lead);
             let owed = random.between(1, lead / 2 + 1);
-            Job {
-                number,
-                owed,
-                deadline: clock + lead,
-            }
+            job(number, owed, clock + lead)
         });
         let jobs = jobs.collect();
-        let desk = Desk {
+        let desk = figured(Desk {
             clock,
             charge,
             feeds,
             jobs,
-        };
+        });
         if desk.in_order() {
             return desk;
         }
@@ -1241,6 +1250,13 @@ struct Faulty(u32);
 
 type State = crate::boundary::Desk;
 
+/// Whether the figures of all live jobs agree with what is owed, be that in order or not.
+fn agrees(desk: &State) -> bool {
+    let mut again = *desk;
+    calls::add_up(&mut again);
+    again == *desk
+}
+
 impl Library for Faulty {
     fn open(&self, list: &[u32], start: u64, charge: u32) -> Answer {
         let mut answer = Own.open(list, start, charge);
@@ -1299,8 +1315,8 @@ impl Library for Faulty {
     }
     fn list(&self, desk: State, buffer: &mut [u64]) -> Listed {
         let listed = Own.list(desk, buffer);
-        if self.0 == 8 && listed.refusal == 0 && buffer.len() > 3 * listed.count as usize {
-            buffer[3 * listed.count as usize] = 0;
+        if self.0 == 8 && listed.refusal == 0 && buffer.len() > 4 * listed.count as usize {
+            buffer[4 * listed.count as usize] = 0;
         }
         listed
     }
@@ -1559,8 +1575,8 @@ fn each_planted_fault_of_a_reason_is_found() {
 
 /// Notes what came: the lengths of fronts, the counts in them, by how much a
 /// file's length was off, the works taken, and how often a state was overbooked;
-/// which kinds of reason, by number; which charges and states under them; and which
-/// kinds of deadline.
+/// which kinds of reason, by number; which charges and states under them; which kinds
+/// of deadline; and which kinds of figure.
 #[derive(Default)]
 struct Watching {
     lent: RefCell<BTreeSet<usize>>,
@@ -1571,12 +1587,14 @@ struct Watching {
     reasons: RefCell<BTreeSet<(u32, &'static str)>>,
     charges: charge::Seen,
     deadlines: deadlines::Seen,
+    figures: figure::Seen,
 }
 
 impl Watching {
     fn note_state(&self, desk: &State) {
         self.charges.note(desk);
         self.deadlines.note(desk);
+        self.figures.note(desk);
     }
 
     fn note_reason(&self, state: &Desk, lead: u64, why: &boundary::Reason) {
@@ -1673,7 +1691,9 @@ impl Library for Watching {
         Own.open(list, start, charge)
     }
     fn ask(&self, desk: State, number: u32, work: u32, lead: u32) -> Answer {
-        Own.ask(desk, number, work, lead)
+        let answer = Own.ask(desk, number, work, lead);
+        self.figures.note_ask(&desk, &answer);
+        answer
     }
     fn ask_mesh(&self, desk: State, head: &[u8], size: u64, number: u32, lead: u32) -> Answer {
         let answer = Own.ask_mesh(desk, head, size, number, lead);
@@ -1709,11 +1729,14 @@ impl Library for Watching {
         self.note_state(&desk);
         let stepped = Own.step(desk);
         self.deadlines.note_step(&desk, &stepped);
+        self.figures.note_step(&desk, &stepped);
         stepped
     }
     fn end(&self, desk: State, number: u32) -> Answer {
         self.note_state(&desk);
-        Own.end(desk, number)
+        let answer = Own.end(desk, number);
+        self.figures.note_end(&desk, number, &answer);
+        answer
     }
     fn rest(&self, desk: State, position: u32) -> Answer {
         self.note_state(&desk);
@@ -1721,6 +1744,7 @@ impl Library for Watching {
     }
     fn list(&self, desk: State, buffer: &mut [u64]) -> Listed {
         self.note_state(&desk);
+        self.figures.note_list(&desk, buffer.len());
         Own.list(desk, buffer)
     }
     fn label(&self, desk: State, jobs: &[u8], feeds: &[u8]) -> Label {
@@ -1757,4 +1781,5 @@ fn a_right_library_passes() {
     watching.saw_every_kind_of_reason();
     watching.charges.saw_every_kind_of_state();
     watching.deadlines.saw_every_kind();
+    watching.figures.saw_every_kind();
 }

@@ -120,9 +120,9 @@ fn a_mesh_owes_its_bands_work_and_the_charge() {
     assert_eq!(desk.ask_mesh(&head, size, 1, 20).err(), Some(6));
     let taken = desk.ask_mesh(&head, size, 1, 21).unwrap();
     assert_eq!(taken.jobs[0].owed, 21);
-    let mut buffer = [0; 3];
+    let mut buffer = [0; 4];
     assert_eq!(taken.list(&mut buffer), Ok(1));
-    assert_eq!(buffer, [1, 21, 21]);
+    assert_eq!(buffer, [1, 21, 21, 21]);
     let (most, size) = (front(u32::MAX, 0), length_of(u32::MAX));
     assert_eq!(desk.ask_mesh(&most, size, 1, 65_536).err(), Some(6));
     assert!(opened(&[], 0).ask_mesh(&most, size, 1, 65_536).is_ok());
@@ -243,6 +243,7 @@ fn what_is_owed_is_bounded_by_charged_work() {
             (65_537 + charge, false),
         ] {
             desk.jobs[0].owed = owed;
+            desk.add_up();
             assert_eq!(desk.in_order(), good, "a job owes {owed} at {charge}");
         }
         desk.jobs.clear();
@@ -279,7 +280,8 @@ fn in_order(desk: &State) -> bool {
     read(desk).map_or(false, |state| state.in_order())
 }
 
-/// The state under this charge, what is owed cut down to its bounds.
+/// The state under this charge, what is owed cut down to its bounds, and with it the
+/// figures where they agreed.
 fn cut(desk: &State, charge: u64) -> State {
     let mut cut = *desk;
     cut.charge = charge;
@@ -288,6 +290,9 @@ fn cut(desk: &State, charge: u64) -> State {
     }
     for job in &mut cut.table.jobs {
         job.owed = job.owed.min(JOB_LENGTH_MOST + charge);
+    }
+    if agrees(desk) {
+        calls::add_up(&mut cut);
     }
     cut
 }
@@ -470,12 +475,9 @@ fn mischarged_ask(fault: u32, desk: State, number: u32, work: u32, lead: u32) ->
     let fits = |owed, more, charge| {
         let mut state = read(&desk).unwrap();
         state.jobs.iter_mut().for_each(|job| job.owed += more);
-        let deadline = desk.clock + u64::from(lead);
-        state.jobs.push(Job {
-            number,
-            owed,
-            deadline,
-        });
+        state
+            .jobs
+            .push(job(number, owed, desk.clock + u64::from(lead)));
         state.charge = charge;
         ahead::never_late(&state)
     };

@@ -313,21 +313,16 @@ fn deadlines_past_the_last_instant() {
 /// served in the last tick before it, in another, or not at all.
 #[test]
 fn a_late_piece_gives_way_at_its_deadline() {
-    let job = |owed, deadline| Job {
-        number: 9,
-        owed,
-        deadline,
-    };
     for (owed, runner, owes) in [
         (1, Runner::Feed(1), 1),
         (2, Runner::Job(9), 0),
         (5, Runner::Job(9), 3),
     ] {
-        let mut desk = Desk {
+        let mut desk = figured(Desk {
             feeds: vec![feed(10, 2, 0, 2, 2)],
-            jobs: vec![job(owed, 2)],
+            jobs: vec![job(9, owed, 2)],
             ..Desk::default()
-        };
+        });
         assert!(desk.in_order());
         assert_eq!(desk.ask(1, 1, 65_536).err(), Some(6));
         desk.tick();
