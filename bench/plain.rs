@@ -91,6 +91,26 @@ fn feeds_in_order(desk: &Desk) -> bool {
         && feeds.iter().all(piece)
 }
 
+/// By deadlines, so that one sum runs through them all: each shows it as it is after the last of those due together. Each
+/// owes no more than it may.
+fn figures_agree(jobs: &[Job]) -> bool {
+    let mut places = [Job::default(); MOST_JOBS];
+    let order = &mut places[..jobs.len()];
+    order.copy_from_slice(jobs);
+    order.sort_unstable_by_key(|job| job.deadline);
+    let (mut sum, mut from) = (0, 0);
+    for at in 0..order.len() {
+        sum += order[at].owed;
+        if at + 1 == order.len() || order[at].deadline < order[at + 1].deadline {
+            if order[from..=at].iter().any(|job| job.figure != sum) {
+                return false;
+            }
+            from = at + 1;
+        }
+    }
+    true
+}
+
 fn jobs_in_order(desk: &Desk) -> bool {
     if desk.table.count > MOST_JOBS {
         return false;
@@ -106,7 +126,7 @@ fn jobs_in_order(desk: &Desk) -> bool {
     let empty = |job: &Job| *job == Job::default();
     jobs.iter().all(within)
         && jobs.iter().enumerate().all(|(i, job)| jobs[i + 1..].iter().all(|other| other.number != job.number))
-        && jobs.iter().all(|job| job.figure == jobs_owe(desk, job.deadline))
+        && figures_agree(jobs)
         && desk.table.jobs[desk.table.count..].iter().all(empty)
 }
 
@@ -116,7 +136,7 @@ fn in_order(desk: &Desk) -> bool {
 
 /// What the live jobs due by an instant owe together.
 fn jobs_owe(desk: &Desk, by: u64) -> u64 {
-    jobs_of(desk).iter().map(|job| if job.deadline <= by { job.owed } else { 0 }).sum()
+    jobs_of(desk).iter().filter(|job| job.deadline <= by).map(|job| job.owed).sum()
 }
 
 fn owed_by(desk: &Desk, by: u64) -> u64 {

@@ -340,7 +340,7 @@ impl Opening {
 pub fn lead(random: &mut Random, desk: &Desk) -> u64 {
     let round = round_of(&desk.feeds).unwrap_or(1);
     match random.below(100) {
-        // Of all jobs due together, each shows what the others owe.
+        // Due together with another job: then each shows what the other owes.
         0..=24 if !desk.jobs.is_empty() => desk.jobs[random.index(desk.jobs.len())]
             .deadline
             .saturating_sub(desk.clock),
