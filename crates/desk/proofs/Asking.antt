@@ -7,7 +7,8 @@ use Prim.Native.Nat.{ℕ, _≤_, _<_}
 use native.Mathlib.Omega.{arith}
 use lib.ListN.{length}
 use borrow.Author.Tests.{not-false, leb-true, leb-false}
-use Rattle.lists.specs.Lists.{Each}
+use Rattle.lists.specs.Lists.{Each, total}
+use Rattle.lists.proofs.Lists.{total-map}
 use Rattle.lists.proofs.Tests.{both}
 use Rattle.ticks.specs.Ticks.{mostJob, jobLength, ticks}
 use Rattle.ticks.proofs.Tests.{from-one}
@@ -16,9 +17,12 @@ use Rattle.jobs.specs.declared.Job.{Job}
 use Rattle.jobs.specs.declared.Table.{Table}
 use Rattle.jobs.specs.Jobs.{mostJobs, tableOf, Tidy, JobsIn, live}
 use Rattle.jobs.specs.Figures.{Modest, Figured, figured}
+use Rattle.jobs.specs.Sorted.{Sorted, insert}
+use Rattle.jobs.proofs.Sorted.{insert-same}
 use Rattle.jobs.proofs.Numbers.{lacks-times}
 use Rattle.jobs.proofs.Places.{live-of, live-count, tidy-of, jobs-in-taken}
 use Rattle.edf.specs.Calls.{taking}
+use Rattle.edf.specs.Reordered.{Reordered}
 use Rattle.answers.specs.declared.Refusal.{Refusal}
 use Rattle.answers.specs.declared.Verdict.{Verdict}
 use Rattle.answers.specs.declared.Verdict.the-variants.{Yes, No}
@@ -68,25 +72,25 @@ admissible d number work lead s e =
 
 -- the table takes a job that is asked for
 pub takes : (d : Desk) (j : Job) → Admissible d j
-    → Tidy (d .ledger .table) × (d .ledger .table .count < mostJobs) × Each Modest (live (d .ledger .table)) × Figured (live (d .ledger .table)) × Modest j
+    → Tidy (d .ledger .table) × (d .ledger .table .count < mostJobs) × Sorted (live (d .ledger .table)) × Each Modest (live (d .ledger .table)) × Figured (live (d .ledger .table)) × Modest j
 takes d j a =
     let order = in-order (d .ledger) (a .sized) (a .order) in
-    (order .tidyTable, a .space, jobs-modest (d .ledger) order, order .jobs .figures, omega (arith, a .job .owed .1, order .charge))
+    (order .tidyTable, a .space, order .jobs .order, jobs-modest (d .ledger) order, order .jobs .figures, omega (arith, a .job .owed .1, order .charge))
 
 -- with the job that is asked for the state is still in order, and its book is the book with that job
-module _ (d : Desk) (j : Job) (a : Admissible d j) (t : Table) (e : t ≡ tableOf (figured (live (d .ledger .table) ++ (j ∷ [])))) where
+module _ (d : Desk) (j : Job) (a : Admissible d j) (t : Table) (e : t ≡ tableOf (figured (insert j (live (d .ledger .table))))) where
   abbrev l : Ledger
   l = d .ledger
 
   order : InOrder l
   order = in-order l (a .sized) (a .order)
 
-  taken-live : live t ≡ figured (live (l .table) ++ (j ∷ []))
-  taken-live = ap live e ∙ live-of (figured (live (l .table) ++ (j ∷ [])))
+  taken-live : live t ≡ figured (insert j (live (l .table)))
+  taken-live = ap live e ∙ live-of (figured (insert j (live (l .table))))
 
   pub taken-in-order : InOrder (moved (d .ledger) (d .ledger .clock) (d .ledger .feeds) t)
   taken-in-order =
-      let js : JobsIn (l .charge) (l .clock) (figured (live (l .table) ++ (j ∷ [])))
+      let js : JobsIn (l .charge) (l .clock) (figured (insert j (live (l .table))))
       = jobs-in-taken (l .charge) (l .clock) (live (l .table)) j (order .jobs) (omega (arith, a .space, live-count (l .table) (order .tidyTable))) (a .job) (a .free) in
       record {
         clock = order .clock;
@@ -94,14 +98,23 @@ module _ (d : Desk) (j : Job) (a : Admissible d j) (t : Table) (e : t ≡ tableO
         feeds = order .feeds;
         jobs = subst (JobsIn (l .charge) (l .clock)) (sym taken-live) js;
         tidyFeeds = order .tidyFeeds;
-        tidyTable = subst Tidy (sym e) (tidy-of (figured (live (l .table) ++ (j ∷ []))) (js .few));
+        tidyTable = subst Tidy (sym e) (tidy-of (figured (insert j (live (l .table)))) (js .few));
       }
 
-  pub taken-book : bookOf (moved (d .ledger) (d .ledger .clock) (d .ledger .feeds) t) ≡ with-job d j
+  pub taken-book : Reordered (with-job d j) (bookOf (moved (d .ledger) (d .ledger .clock) (d .ledger .feeds) t))
   unfolding taking
   taken-book =
-      ap (bookAt (l .charge) (l .clock) (inUse (l .feeds))) taken-live
-      ∙ (λ i. record { clock = l .clock .0; feeds = book d .feeds; jobs = (book-of-figured (live (l .table) ++ (j ∷ [])) ∙ jobs-append (live (l .table)) j) i })
+      let js = live (l .table) in
+      record {
+        clock = refl;
+        feeds = refl;
+        jobs = λ f.
+            ap (total f) (sym (jobs-append js j))
+            ∙ total-map f bookJob (js ++ (j ∷ []))
+            ∙ sym (insert-same js j (λ k. f (bookJob k)))
+            ∙ sym (total-map f bookJob (insert j js))
+            ∙ ap (total f) (sym (ap (map bookJob) taken-live ∙ book-of-figured (insert j js)));
+      }
 
 module _ (d : Desk) (number work lead : ℕ) where
   -- an ask that a line stops

@@ -10,15 +10,16 @@ use Rattle.feeds.specs.Feeds.{feedsOf, inUse}
 use Rattle.feeds.specs.Pieces.{rested}
 use Rattle.jobs.specs.declared.Job.{Job}
 use Rattle.jobs.specs.declared.Table.{Table}
-use Rattle.jobs.specs.Jobs.{tableOf, others, live}
+use Rattle.jobs.specs.Jobs.{tableOf, others, times, live}
 use Rattle.jobs.specs.Figures.{figured}
-use Rattle.jobs.proofs.Figures.{figured-own}
+use Rattle.jobs.specs.Sorted.{insert, sorted}
+use Rattle.jobs.proofs.Sorted.{sorted-own, sorted-keep, sorted-taken}
 use Rattle.edf.specs.Book as edf
 use Rattle.edf.specs.Calls.{taking, ending, resting}
 use Rattle.ledger.specs.declared.Ledger.{Ledger}
 use Rattle.ledger.specs.State.{moved, inOrder, InOrder}
 use Rattle.ledger.specs.Books.{bookFeeds, bookJob, bookOf, jobOf, owingAs, rewritten, whoIs}
-use Rattle.ledger.proofs.Books.{owing-as-read, jobs-of-book}
+use Rattle.ledger.proofs.Books.{owing-as-read, jobs-of-book, jobs-of-book-own}
 use Rattle.ledger.proofs.Pieces.{rested-read}
 use Rattle.ticks.specs.Ticks.{ticks}
 use Rattle.edf.specs.Step.{ran, step}
@@ -57,17 +58,17 @@ module _ (l : Ledger) (h : InOrder l) where
   feeds-back : l .feeds ≡ feedsOf (owingAs (bookFeeds (l .charge) 1 (inUse (l .feeds))) (inUse (l .feeds)))
   feeds-back = h .tidyFeeds .filled ∙ ap feedsOf (sym (owing-as-read (l .charge) 1 (inUse (l .feeds))))
 
-  jobs-back : l .table ≡ tableOf (figured (map jobOf (map bookJob (live (l .table)))))
-  jobs-back = h .tidyTable .filled ∙ ap tableOf (sym (jobs-of-book (live (l .table)) ∙ figured-own (live (l .table)) (h .jobs .figures)))
+  jobs-back : l .table ≡ tableOf (figured (sorted (map jobOf (map bookJob (live (l .table))))))
+  jobs-back = h .tidyTable .filled ∙ ap tableOf (sym (jobs-of-book-own (live (l .table)) (h .jobs .order) (h .jobs .figures)))
 
-  -- jobs with their figures are written from their book
-  jobs-made : (t : Table) (js : List Job) (bs : List edf.Job) → t ≡ tableOf (figured js) → map bookJob js ≡ bs → t ≡ tableOf (figured (map jobOf bs))
-  jobs-made t js bs e r = e ∙ ap tableOf (sym (jobs-of-book js) ∙ ap (λ ks. figured (map jobOf ks)) r)
+  -- jobs in the order of the table with their figures are written from their book
+  jobs-made : (t : Table) (js ks : List Job) (bs : List edf.Job) → t ≡ tableOf (figured js) → sorted ks ≡ js → map bookJob ks ≡ bs → t ≡ tableOf (figured (sorted (map jobOf bs)))
+  jobs-made t js ks bs e o r = e ∙ ap tableOf (ap figured (sym o) ∙ sym (jobs-of-book ks) ∙ ap (λ xs. figured (sorted (map jobOf xs))) r)
 
   -- a job that is out
   pub ended-ledger : (n : ℕ) (t : Table) → t ≡ tableOf (figured (others n (live (l .table)))) → moved l (l .clock) (l .feeds) t ≡ rewritten l (ending n (bookOf l))
   unfolding ending
-  ended-ledger n t e = λ i. moved l (l .clock) (feeds-back i) (jobs-made t (others n (live (l .table))) (ending n (bookOf l) .jobs) e (others-read n (live (l .table))) i)
+  ended-ledger n t e = let js = live (l .table) in λ i. moved l (l .clock) (feeds-back i) (jobs-made t (others n js) (others n js) (ending n (bookOf l) .jobs) e (sorted-own (others n js) (sorted-keep (λ j. not (eqb n (j .number))) js (h .jobs .order))) (others-read n js) i)
 
   -- a piece that rests
   pub rested-ledger : (p : ℕ) (s : Feeds) → s ≡ feedsOf (rested p 1 (inUse (l .feeds))) → moved l (l .clock) s (l .table) ≡ rewritten l (resting p (bookOf l))
@@ -75,10 +76,12 @@ module _ (l : Ledger) (h : InOrder l) where
   rested-ledger p s e = λ i. moved l (l .clock) ((e ∙ ap feedsOf (rested-read (l .charge) p 1 (inUse (l .feeds)))) i) (jobs-back i)
 
   -- a job that is taken
-  pub taken-ledger : (j : Job) (t : Table) → t ≡ tableOf (figured (live (l .table) ++ (j ∷ []))) → moved l (l .clock) (l .feeds) t ≡ rewritten l (taking (bookJob j) (bookOf l))
+  pub taken-ledger : (j : Job) (t : Table) → times (j .number) (live (l .table)) ≡ 0 → t ≡ tableOf (figured (insert j (live (l .table))))
+      → moved l (l .clock) (l .feeds) t ≡ rewritten l (taking (bookJob j) (bookOf l))
   unfolding taking
-  taken-ledger j t e =
-      λ i. moved l (l .clock) (feeds-back i) (jobs-made t (live (l .table) ++ (j ∷ [])) (taking (bookJob j) (bookOf l) .jobs) e (jobs-append (live (l .table)) j) i)
+  taken-ledger j t free e =
+      let js = live (l .table) in
+      λ i. moved l (l .clock) (feeds-back i) (jobs-made t (insert j js) (js ++ (j ∷ [])) (taking (bookJob j) (bookOf l) .jobs) e (sorted-taken js j (h .jobs .order) (h .jobs .once) free) (jobs-append js j) i)
 
 -- a step of a state that is not in order
 pub step-stopped : (d : Desk) → inOrder (d .ledger) ≡ false

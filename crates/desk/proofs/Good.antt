@@ -21,8 +21,9 @@ use Rattle.answers.specs.Answers.{firstOf, onYes}
 use Rattle.answers.proofs.Answers.{yes-first, yes-is-not-no}
 use Rattle.serving.specs.Tick.{lastLine}
 use Rattle.jobs.specs.declared.Job.{Job}
-use Rattle.ledger.specs.Books.{bookJob, Held}
-use Rattle.ledger.proofs.Books.{book-of-rewritten}
+use Rattle.ledger.specs.Books.{bookJob, Held, InTableOrder}
+use Rattle.edf.specs.Reordered.{Reordered}
+use Rattle.ledger.proofs.Books.{book-of-rewritten, book-of-rewritten-own, book-in-table-order}
 use Rattle.desk.specs.declared.Desk.{Desk}
 use Rattle.desk.specs.declared.Answer.{Answer}
 use Rattle.desk.specs.State.{empty, book, rewritten, Good}
@@ -42,6 +43,9 @@ use Rattle.desk.proofs.Reachable.{
   held-taking,
   opened-is-good,
   empty-is-good,
+  step-in-table-order,
+  ending-in-table-order,
+  resting-in-table-order,
 }
 
 -- what is handed back by an answer is good on a yes and on a refusal
@@ -64,8 +68,11 @@ module _ (d : Desk) (g : Good d) where
   written b s h = good-rewritten (d .ledger) b (good-order d g) h (rewritten d b) refl s
 
   -- the desk that a yes hands back is read as the book that was written into it
-  read : (b : Book) (v : Verdict) → Held (d .ledger) b → v ≡ Yes → book (onYes v (rewritten d b) d) ≡ b
-  read b v h e = ap (λ w. book (onYes w (rewritten d b) d)) e ∙ book-of-rewritten (d .ledger) b (h .feeds)
+  read : (b : Book) (v : Verdict) → Held (d .ledger) b → InTableOrder b → v ≡ Yes → book (onYes v (rewritten d b) d) ≡ b
+  read b v h o e = ap (λ w. book (onYes w (rewritten d b) d)) e ∙ book-of-rewritten-own (d .ledger) b (h .feeds) o
+
+  stands : InTableOrder (book d)
+  stands = book-in-table-order (d .ledger) (good-order d g)
 
   -- A STEP
   stepped : Sound (step (book d))
@@ -82,7 +89,7 @@ module _ (d : Desk) (g : Good d) where
 
   pub step-book : firstOf (stepLines d) ≡ Yes → book (stepOf d .desk) ≡ step (book d)
   unfolding stepOf
-  step-book e = read (step (book d)) (firstOf (stepLines d)) (step-held e) e
+  step-book e = read (step (book d)) (firstOf (stepLines d)) (step-held e) (step-in-table-order (book d) stands) e
 
   -- AN END
   ended : (n : ℕ) → Sound (ending n (book d))
@@ -97,7 +104,7 @@ module _ (d : Desk) (g : Good d) where
 
   pub end-book : (n : ℕ) → firstOf (endLines d n) ≡ Yes → book (endOf d n .desk) ≡ ending n (book d)
   unfolding endOf
-  end-book n e = read (ending n (book d)) (firstOf (endLines d n)) (end-held n) e
+  end-book n e = read (ending n (book d)) (firstOf (endLines d n)) (end-held n) (ending-in-table-order (book d) n stands) e
 
   -- A REST
   rested : (p : ℕ) → Sound (resting p (book d))
@@ -112,7 +119,7 @@ module _ (d : Desk) (g : Good d) where
 
   pub rest-book : (p : ℕ) → firstOf (restLines d p) ≡ Yes → book (restOf d p .desk) ≡ resting p (book d)
   unfolding restOf
-  rest-book p e = read (resting p (book d)) (firstOf (restLines d p)) (rest-held p) e
+  rest-book p e = read (resting p (book d)) (firstOf (restLines d p)) (rest-held p) (resting-in-table-order (book d) p stands) e
 
   -- AN ASK
   taken : (j : Job) → Admissible d j → Fits (with-job d j) → Sound (with-job d j)
@@ -126,9 +133,9 @@ module _ (d : Desk) (g : Good d) where
   judged-is-good j r a (inl y) = subst (λ x. Good (x .desk)) (sym (y .1)) (written (with-job d j) (taken j a (y .0)) (take-held j a (y .0)))
   judged-is-good j r a (inr n) = subst (λ x. Good (x .desk)) (sym (n .1)) g
 
-  judged-book : (j : Job) (r : Answer) → Admissible d j → Judged d j r → r .verdict ≡ Yes → book (r .desk) ≡ with-job d j
+  judged-book : (j : Job) (r : Answer) → Admissible d j → Judged d j r → r .verdict ≡ Yes → Reordered (with-job d j) (book (r .desk))
   unfolding Judged
-  judged-book j r a (inl y) e = ap (λ x. book (x .desk)) (y .1) ∙ book-of-rewritten (d .ledger) (with-job d j) (take-held j a (y .0) .feeds)
+  judged-book j r a (inl y) e = subst (λ x. Reordered (with-job d j) (book (x .desk))) (sym (y .1)) (book-of-rewritten (d .ledger) (with-job d j) (take-held j a (y .0) .feeds))
   judged-book j r a (inr n) e = absurd (yes-is-not-no _ (sym e ∙ ap (λ x. x .verdict) (n .1)))
 
 module _ (d : Desk) (g : Good d) (number work lead : ℕ) (r : Answer) (a : Asked d number work lead r) where
@@ -139,7 +146,7 @@ module _ (d : Desk) (g : Good d) (number work lead : ℕ) (r : Answer) (a : Aske
       go Yes e = judged-is-good d g (requested d number work lead) r (admissible d number work lead (g .sized) e) (a .judged e)
       go (No x) e = subst (λ k. Good (k .desk)) (sym (a .stopped x e)) g
 
-  pub ask-book : r .verdict ≡ Yes → book (r .desk) ≡ with-job d (requested d number work lead)
+  pub ask-book : r .verdict ≡ Yes → Reordered (with-job d (requested d number work lead)) (book (r .desk))
   ask-book y =
       let e = said-yes d number work lead r a y in
       judged-book d g (requested d number work lead) r (admissible d number work lead (g .sized) e) (a .judged e) y

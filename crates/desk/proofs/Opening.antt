@@ -10,6 +10,7 @@ use Rattle.ticks.specs.declared.Instant.{Instant}
 use Rattle.ticks.specs.declared.Length.{Length}
 use Rattle.ticks.specs.Ticks.{lastInstant, mostCharge, instant, ticks}
 use Rattle.feeds.specs.declared.Feed.{Feed}
+use Rattle.jobs.specs.Sorted.{sorted}
 use Rattle.feeds.specs.Feeds.{feedsOf, inUse}
 use Rattle.feeds.specs.Lines.{shapeLines, feedLines, feedsIn, Passing}
 use Rattle.feeds.specs.Pieces.{arrived}
@@ -32,7 +33,7 @@ use Rattle.desk.specs.Opening.{startLine, chargeLine, openLines, openedD
 -- the pieces released at the opening instant are ready
 pub opened-ledger : (fs : List Feed) (charge : Length) (clock : Instant) → Fresh fs
     → with empty (ledger.laid clock charge (feedsOf (map (arrived charge clock) fs))) ≡ openedDesk fs charge clock
-unfolding opened
+unfolding opened sorted
 opened-ledger fs charge clock z =
     let feeds = ap feedsOf
     (arrived-opened charge clock 1 fs z ∙ ap (owingAs (map (openedFeed (clock .0)) (bookFeeds charge 1 fs))) (sym (in-use-of fs))) in

@@ -1,7 +1,7 @@
 -- What a call hands back on a state in order whose book is sound is such a state again.
 use mathlib.Core.Path.{_≡_, refl, sym, _∙_, ap, subst}
 use mathlib.Core.Bool.{Bool, true, false, not, cond}
-use mathlib.Core.List.{List, [], _∷_, _++_, map}
+use mathlib.Core.List.{List, [], _∷_, _++_, map, map-map}
 use Prim.Native.Nat.{ℕ, suc, _+_, _≤_, _<_}
 use native.Mathlib.Omega.{arith}
 use lib.Dec.{ltb, eqb}
@@ -20,8 +20,11 @@ use Rattle.feeds.proofs.Passing.{in-use-of, tidy-of}
 use Rattle.feeds.proofs.Lines.{passing-none}
 use Rattle.jobs.specs.declared.Job.{Job}
 use Rattle.jobs.specs.Jobs.{mostJobs, noJob, live}
+use Rattle.lists.proofs.Same.{same-length}
 use Rattle.jobs.specs.Figures.{figured}
+use Rattle.jobs.specs.Sorted.{Sorted, sorted}
 use Rattle.jobs.proofs.Figures.{length-figured}
+use Rattle.jobs.proofs.Sorted.{sorted-same, sorted-alike, sorted-left}
 use Rattle.jobs.proofs.Places.{live-count}
 use Rattle.jobs.proofs.Places as jobs
 use Rattle.edf.specs.Book as edf
@@ -34,8 +37,9 @@ use Rattle.edf.proofs.Plans as plans
 use Rattle.edf.proofs.Opening.{opening-is-sound}
 use Rattle.ledger.specs.declared.Ledger.{Ledger}
 use Rattle.ledger.specs.State.{Sized, InOrder, inOrder}
-use Rattle.ledger.specs.Books.{bookFeeds, bookJob, bookOf, jobOf, owingAs, rewritten, JobHeld, SameFeeds, Held}
-use Rattle.ledger.proofs.Books.{length-owing-as, book-of-rewritten}
+use Rattle.ledger.specs.Books.{bookFeeds, bookJob, bookOf, jobOf, owingAs, rewritten, InTableOrder, JobHeld, SameFeeds, Held}
+use Rattle.ledger.proofs.Books.{length-owing-as, book-of-rewritten, book-of-rewritten-own}
+use Rattle.edf.proofs.Reordered.{reordered-sound}
 use Rattle.ledger.proofs.InOrder as ledger
 use Rattle.desk.specs.declared.Desk.{Desk}
 use Rattle.desk.specs.State as state
@@ -50,7 +54,8 @@ rewritten-sized l b o few =
     let fs = inUse (l .feeds) in
     record {
       feeds = length-filled mostFeeds noFeed (owingAs (b .feeds) fs) (omega (arith, length-owing-as (b .feeds) fs, o .feeds .passing .few));
-      jobs = length-filled mostJobs noJob (figured (map jobOf (b .jobs))) (omega (arith, length-figured (map jobOf (b .jobs))));
+      jobs = length-filled mostJobs noJob (figured (sorted (map jobOf (b .jobs))))
+          (omega (arith, length-figured (sorted (map jobOf (b .jobs))), same-length (sorted (map jobOf (b .jobs))) (map jobOf (b .jobs)) (sorted-same (map jobOf (b .jobs)))));
     }
 
 -- a state that a book can be written into, which is then in order and read as that book
@@ -61,7 +66,7 @@ module _ (l : Ledger) (b : edf.Book) (o : InOrder l) (h : Held l b) where
       (record {
         sized = rewritten-sized l b o (h .few);
         order = ledger.in-order-made (rewritten l b) (ledger.rewritten-in-order l b o h);
-        sound = subst Sound (sym (book-of-rewritten l b (h .feeds))) s;
+        sound = reordered-sound _ _ (book-of-rewritten l b (h .feeds)) s;
       })
 
 pub good-order : (d : Desk) → Good d → InOrder (d .ledger)
@@ -77,6 +82,21 @@ length-keep t (j ∷ js) = go (t j) (length-keep t js)
     go : (b : Bool) → length (keep t js) ≤ length js → length (cond b (j ∷ keep t js) (keep t js)) ≤ suc (length js)
     go true ih = omega arith
     go false ih = omega arith
+
+-- a step, an end and a rest leave the jobs in the order of the table
+pub step-in-table-order : (b : edf.Book) → InTableOrder b → InTableOrder (step b)
+unfolding step stepBy turn serve
+step-in-table-order b o =
+    sorted-left jobOf (λ j. ltb 0 (j .owes)) (map (serveJob (runner b .who)) (b .jobs))
+    (subst Sorted (sym (map-map jobOf (serveJob (runner b .who)) (b .jobs))) (sorted-alike jobOf (λ j. jobOf (serveJob (runner b .who) j)) (λ j. refl) (λ j. refl) (b .jobs) o))
+
+pub ending-in-table-order : (b : edf.Book) (n : ℕ) → InTableOrder b → InTableOrder (ending n b)
+unfolding ending
+ending-in-table-order b n o = sorted-left jobOf (λ j. not (eqb n (j .number))) (b .jobs) o
+
+pub resting-in-table-order : (b : edf.Book) (p : ℕ) → InTableOrder b → InTableOrder (resting p b)
+unfolding resting
+resting-in-table-order b p o = o
 
 -- a step takes no job in
 pub step-few : (b : edf.Book) → length (step b .jobs) ≤ length (b .jobs)
@@ -180,7 +200,7 @@ laid-in-order fs c clock p z low l =
       clock = l;
       charge = low;
       feeds = subst (FeedsIn c clock) (sym (in-use-of fs)) (record { passing = p; pieces = pieces });
-      jobs = record { few = omega arith; each = tt; once = λ n. omega arith; figures = tt };
+      jobs = record { few = omega arith; each = tt; once = λ n. omega arith; order = tt; figures = tt };
       tidyFeeds = tidy-of fs (p .few);
       tidyTable = jobs.tidy-of [] (omega arith);
     }
@@ -210,13 +230,15 @@ opened-is-good fs c clock p z low l =
 
 -- its book is the one that the mathematics opens
 pub opened-book : (fs : List Feed) (c : Length) (clock : Instant) → book (openedDesk fs c clock) ≡ opened (clock .0) (bookFeeds c 1 fs)
+unfolding opened
 opened-book fs c clock =
     let same : bookFeeds c 1 (inUse (feedsOf fs)) ≡ bookFeeds c 1 fs = ap (bookFeeds c 1) (in-use-of fs) in
-    book-of-rewritten (laid fs c clock .ledger) (opened (clock .0) (bookFeeds c 1 fs))
+    book-of-rewritten-own (laid fs c clock .ledger) (opened (clock .0) (bookFeeds c 1 fs))
     (record {
       positions = plans.opened-keeps-positions (clock .0) (bookFeeds c 1 fs) ∙ ap edf.positions (sym same);
       plans = plans.opened-keeps-plans (clock .0) (bookFeeds c 1 fs) ∙ ap edf.plans (sym same);
     })
+    tt
 
 -- THE EMPTY STATE is in order and its book is sound
 pub empty-is-good : Good empty

@@ -13,7 +13,7 @@ use Rattle.edf.specs.Calls.{ending, resting}
 use Rattle.ledger.specs.State.{inOrder}
 use Rattle.ledger.specs.Books.{whoIs}
 use Rattle.serving.specs.Tick.{lastLine}
-use Rattle.listing.specs.Order.{listOrder, words}
+use Rattle.listing.specs.Words.{words}
 use Rattle.answers.specs.declared.Who.{Who}
 use Rattle.answers.specs.declared.Who.the-variants.{Idle}
 use Rattle.answers.specs.declared.Refusal.the-variants.{NothingThere, ShortBuffer, NotInOrder}
@@ -76,7 +76,7 @@ countedOf d size =
 unfoldable pub listedOf : Desk → List ℕ → List ℕ
 listedOf d buffer =
     onYes (firstOf (listLines d (length buffer)))
-    (words (listOrder (live (d .ledger .table))) ++ drop (numbersAJob * d .ledger .table .count) buffer)
+    (words (live (d .ledger .table)) ++ drop (numbersAJob * d .ledger .table .count) buffer)
     buffer
 
 -- whom the next step would name; nobody where there is no next step

@@ -16,6 +16,7 @@ use Rattle.edf.specs.Kept.{NotLive}
 use Rattle.edf.specs.Runs.{Did, after, Allowed, named}
 use Rattle.edf.specs.Kept.{Live, Current, StillLive, HasLeft, WasEnded, JobKept, WasRested, PieceKept}
 use Rattle.edf.proofs.Moves.{Move, stays, takes, goes, ends, rests, moved, Right, Names, moved-is-sound}
+use Rattle.edf.proofs.Reordered.{reordered-is}
 use Rattle.edf.proofs.Runs.{Known, System}
 use Rattle.edf.proofs.Kept.{job-is-kept, piece-is-kept}
 use Rattle.edf.proofs.Examples.{plain, request}
@@ -45,7 +46,7 @@ books =
       sound = λ b s. s;
       follows = λ x b s a. (
         subst Sound (sym (a .1)) (moved-is-sound (x .call) b (a .0) s),
-        record { move = x .call; right = a .0; read = a .1; names = a .2; known = known (x .call) x refl },
+        record { move = x .call; right = a .0; read = reordered-is _ _ (sym (a .1)); names = a .2; known = known (x .call) x refl },
       );
     }
 

@@ -6,12 +6,12 @@ use Prim.Native.Nat.{ℕ, _+_, _*_, _≤_, _<_}
 use native.Mathlib.Omega.{arith}
 use Rattle.edf.specs.Book.{Book, Who, job, feed, same}
 use Rattle.edf.specs.Load.{Sound}
-use Rattle.edf.specs.Kept.{NotLive}
 use Rattle.edf.specs.Runs.{Did, after, Allowed, named}
 use Rattle.edf.specs.Kept.{Live, Current, StillLive, HasLeft, WasEnded, JobKept, StillCurrent, WasServed, WasRested, PieceKept}
 use Rattle.edf.proofs.Names.{same-elim}
 use Rattle.edf.proofs.Moves.{ends, rests, moved, gives, names-given}
 use Rattle.edf.proofs.Moved.{JobThen, live, out, PieceThen, current, served, still-ahead, job-moved, piece-moved, job-told}
+use Rattle.edf.proofs.Reordered.{reordered-live, reordered-not-live, reordered-current}
 use Rattle.edf.proofs.Runs.{named-append, named-last, Known, Makes, System}
 
 -- for how many ticks one call names w
@@ -108,7 +108,7 @@ module _ {C S : Type 0} (book : S → Book) (Ends Rests : ℕ → Did C S → Ty
   told w = names-given (m .move) (book s) (x .came) w (m .names)
 
   clock : book (x .came .state) .clock ≡ moved (m .move) (book s) .clock
-  clock = ap (λ b. b .clock) (m .read)
+  clock = sym (m .read .clock)
 
   -- the job over one call, and on from there
   job-call : (n d o : ℕ) → Live n d o (book s)
@@ -118,7 +118,7 @@ module _ {C S : Type 0} (book : S → Book) (Ends Rests : ℕ → Did C S → Ty
   job-call n d o l on = go (job-moved (m .move) (book s) n d o sound (m .right) l)
     where
       go : JobThen (gives (m .move) (book s) (job n)) (moved (m .move) (book s)) n d o ⊎ (m .move ≡ ends n) → JobKept book Ends n d o (x ∷ xs) s
-      go (inl (live o′ l′ e)) = carry book x xs s Ends n d o o′ (omega (arith, told (job n))) (on o′ (subst (Live n d o′) (sym (m .read)) l′))
+      go (inl (live o′ l′ e)) = carry book x xs s Ends n d o o′ (omega (arith, told (job n))) (on o′ (reordered-live _ _ (m .read) n d o′ l′))
       go (inl (out f e t)) =
           let all : tally (job n) x ≡ o = told (job n) ∙ e in
           let some = still-ahead (book s) n d o (sound .order) l .1 in
@@ -136,7 +136,7 @@ module _ {C S : Type 0} (book : S → Book) (Ends Rests : ℕ → Did C S → Ty
             some = omega arith;
             last = omega arith;
             inTime = omega (arith, clock);
-            out = subst (NotLive n) (sym (m .read)) f;
+            out = reordered-not-live _ _ (m .read) n f;
             counted = omega arith;
           }))
       go (inr e) =
@@ -160,7 +160,7 @@ module _ {C S : Type 0} (book : S → Book) (Ends Rests : ℕ → Did C S → Ty
     where
       go : PieceThen (gives (m .move) (book s) (feed p)) (moved (m .move) (book s)) p d o ⊎ (m .move ≡ rests p) → PieceKept book Rests p d o (x ∷ xs) s
       go (inl (current o′ l′ t′ e)) =
-          carry-piece book x xs s Rests p d o o′ (omega (arith, told (feed p))) (on o′ (subst (Current p d o′) (sym (m .read)) l′) (omega (arith, clock)))
+          carry-piece book x xs s Rests p d o o′ (omega (arith, told (feed p))) (on o′ (reordered-current _ _ (m .read) p d o′ l′) (omega (arith, clock)))
       go (inl (served t′ e)) =
           inr
           (inl

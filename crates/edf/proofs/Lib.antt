@@ -12,6 +12,8 @@ pub mod Service
 pub mod Equality
 pub mod Calls
 pub mod LessLoad
+pub mod Wanted
+pub mod Reordered
 pub mod Moves
 pub mod Moved
 pub mod Runs
@@ -25,7 +27,6 @@ pub mod Signed
 pub mod Margin
 pub mod Examples
 pub mod Books
-pub mod Wanted
 pub mod HoldUp
 pub mod FinishOnce
 pub mod Finish

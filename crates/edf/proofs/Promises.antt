@@ -24,6 +24,8 @@ use Rattle.edf.proofs.Service.{step-clock, Has, has-step, released-step
 use Rattle.edf.proofs.LessLoad.{less-takes}
 use Rattle.edf.proofs.Moves.{Move, stays, takes, goes, ends, rests, moved, steps-clock}
 use Rattle.edf.proofs.Moved.{job-told, piece-told}
+use Rattle.edf.specs.Reordered.{Reordered}
+use Rattle.edf.proofs.Reordered.{reordered-live, reordered-current}
 use Rattle.edf.proofs.Runs.{System, named-last, allowed-append, run-is-good, run-is-sound, run-has}
 use Rattle.edf.proofs.Kept.{job-is-kept, piece-is-kept}
 
@@ -96,7 +98,7 @@ module _ {C S : Type 0} (y : System C S) (s : S) (g : y .Good s) where
   -- A YES STANDS: whatever was called before it, and whatever is called after it
   pub a-yes-is-kept : (before : List (Did C S)) (x : Did C S) (later : List (Did C S)) (j : Job)
       → Allowed (y .allows) (before ++ (x ∷ later)) s
-      → y .book (x .came .state) ≡ taking j (y .book (after before s))
+      → Reordered (taking j (y .book (after before s))) (y .book (x .came .state))
       → JobKept (y .book) (y .Ends) (j .number) (j .due) (j .owes) later (x .came .state)
   unfolding Allowed
   a-yes-is-kept before x later j a e =
@@ -104,7 +106,7 @@ module _ {C S : Type 0} (y : System C S) (s : S) (g : y .Good s) where
       job-is-kept y later (x .came .state) (j .number) (j .due) (j .owes)
       (y .follows x (after before s) (run-is-good y before s g front) (back .0) .0)
       (back .1)
-      (subst (Live (j .number) (j .due) (j .owes)) (sym e) (taken-is-live (y .book (after before s)) j))
+      (reordered-live _ _ e (j .number) (j .due) (j .owes) (taken-is-live (y .book (after before s)) j))
 
   -- EVERY LAYER PIECE IS SERVED, from the call that brought the clock to its release, whatever was called before and whatever
   -- is called after
@@ -120,7 +122,9 @@ module _ {C S : Type 0} (y : System C S) (s : S) (g : y .Good s) where
       let b : Book = y .book (after before s) in
       let has : Has f b = run-has y before s g front f h in
       piece-is-kept y later (x .came .state) (f .position) (y .book (x .came .state) .clock + f .plan .lead) (f .plan .work) good (back .1)
-      (rw (m .read) (released-by (m .move) b f has (omega (arith, ap (λ c. c .clock) (m .read))) (subst (λ c. since (f .plan) (c .clock) ≡ 0) (m .read) z)))
+      (subst (λ c. Current (f .position) (c + f .plan .lead) (f .plan .work) (y .book (x .came .state))) (m .read .clock)
+      (reordered-current _ _ (m .read) (f .position) _ (f .plan .work)
+      (released-by (m .move) b f has (omega (arith, m .read .clock)) (subst (λ c. since (f .plan) c ≡ 0) (sym (m .read .clock)) z))))
       (omega (arith, some-lead b f (run-is-sound y before s g front .order) has))
 
   -- and those that come with the opening

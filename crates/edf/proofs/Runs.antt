@@ -13,6 +13,8 @@ use Rattle.edf.specs.Steps.{steps}
 use Rattle.edf.specs.Calls.{taking, ending, resting, Askable}
 use Rattle.edf.specs.Load.{Sound}
 use Rattle.edf.specs.Runs.{Came, Did, after, Allowed, named}
+use Rattle.edf.specs.Reordered.{Reordered}
+use Rattle.edf.proofs.Reordered.{reordered-is, reordered-sound}
 use Rattle.lists.proofs.Lists.{some-map, some-of-map}
 use Rattle.edf.proofs.Service.{Has}
 use Rattle.edf.proofs.Moves.{Move, stays, takes, goes, ends, rests, moved, OneRunner, Right, Names, one-tick, moved-is-sound, moved-clock, moved-keeps}
@@ -48,27 +50,28 @@ module _ {C S : Type 0} where
   Known Ends Rests (ends n) x = Ends n x
   Known Ends Rests (rests p) x = Rests p x
 
-  -- the call on s is a move of the mathematics, rightly made, and its answer names whom the ticks went to
+  -- the call on s is a move of the mathematics, rightly made, but for the order of the jobs; and its answer names whom the
+  -- ticks went to
   pub record Makes (book : S → Book) (Ends Rests : ℕ → Did C S → Type 0) (x : Did C S) (s : S) : Type 0 where
     pub move : Move
     pub right : Right move (book s)
-    pub read : book (x .came .state) ≡ moved move (book s)
+    pub read : Reordered (moved move (book s)) (book (x .came .state))
     pub names : Names move (book s) (x .came)
     pub known : Known Ends Rests move x
 
   -- so the state that it hands back has a sound book
   pub made-is-sound : (book : S → Book) (Ends Rests : ℕ → Did C S → Type 0) (x : Did C S) (s : S) → Makes book Ends Rests x s → Sound (book s) → Sound (book (x .came .state))
-  made-is-sound book Ends Rests x s m b = rw (m .read) (moved-is-sound (m .move) (book s) (m .right) b)
+  made-is-sound book Ends Rests x s m b = reordered-sound _ _ (m .read) (moved-is-sound (m .move) (book s) (m .right) b)
 
   -- how each call shows that it is a move
   module _ (book : S → Book) (Ends Rests : ℕ → Did C S → Type 0) (x : Did C S) (s : S) where
     -- a look, a refusal: the book is as it was
     pub makes-nothing : book (x .came .state) ≡ book s → x .came .ticks ≡ 0 → Makes book Ends Rests x s
     unfolding Right moved Names Known
-    makes-nothing e t = record { move = stays; right = tt; read = e; names = t; known = tt }
+    makes-nothing e t = record { move = stays; right = tt; read = reordered-is _ _ (sym e); names = t; known = tt }
 
     -- an ask that is answered yes
-    pub takes-a-job : (j : Job) → Askable (book s) j → Fits (taking j (book s)) → book (x .came .state) ≡ taking j (book s) → x .came .ticks ≡ 0
+    pub takes-a-job : (j : Job) → Askable (book s) j → Fits (taking j (book s)) → Reordered (taking j (book s)) (book (x .came .state)) → x .came .ticks ≡ 0
         → Makes book Ends Rests x s
     unfolding Right moved Names Known
     takes-a-job j a f e t = record { move = takes j; right = (a, f); read = e; names = t; known = tt }
@@ -78,7 +81,7 @@ module _ {C S : Type 0} where
         → x .came .ticks ≡ k → x .came .who ≡ runner (book s) .who → x .came .owes ≡ runner (book s) .owes - k
         → Makes book Ends Rests x s
     unfolding Right moved Names Known
-    goes-on k r e t w o = record { move = goes k; right = r; read = e; names = (t, w, o); known = tt }
+    goes-on k r e t w o = record { move = goes k; right = r; read = reordered-is _ _ (sym e); names = (t, w, o); known = tt }
 
     -- a step that was taken
     pub steps-once : book (x .came .state) ≡ step (book s) → x .came .ticks ≡ 1 → x .came .who ≡ ran (book s) .who → x .came .owes ≡ ran (book s) .owes
@@ -91,12 +94,12 @@ module _ {C S : Type 0} where
     -- an end
     pub ends-a-job : (n : ℕ) → book (x .came .state) ≡ ending n (book s) → x .came .ticks ≡ 0 → Ends n x → Makes book Ends Rests x s
     unfolding Right moved Names Known
-    ends-a-job n e t k = record { move = ends n; right = tt; read = e; names = t; known = k }
+    ends-a-job n e t k = record { move = ends n; right = tt; read = reordered-is _ _ (sym e); names = t; known = k }
 
     -- a rest
     pub rests-a-feed : (p : ℕ) → book (x .came .state) ≡ resting p (book s) → x .came .ticks ≡ 0 → Rests p x → Makes book Ends Rests x s
     unfolding Right moved Names Known
-    rests-a-feed p e t k = record { move = rests p; right = tt; read = e; names = t; known = k }
+    rests-a-feed p e t k = record { move = rests p; right = tt; read = reordered-is _ _ (sym e); names = t; known = k }
 
 -- calls C on states S that the mathematics can follow: how a state is read as a book, which states are good, what may come
 -- of a call, which calls end a job or rest a feed, and that each allowed call on a good state hands back a good one and is a
@@ -127,7 +130,7 @@ module _ {C S : Type 0} (y : System C S) where
   run-clock [] s g a = le-refl (y .book s .clock)
   run-clock (x ∷ xs) s g a =
       let (g′, m) = y .follows x s g (a .0) in
-      omega (arith, run-clock xs (x .came .state) g′ (a .1), moved-clock (m .move) (y .book s), ap (λ b. b .clock) (m .read))
+      omega (arith, run-clock xs (x .came .state) g′ (a .1), moved-clock (m .move) (y .book s), m .read .clock)
 
   -- what can be read off the feeds, whatever their current pieces owe, stays
   pub run-keeps : {A : Type 0} (v : Feed → A) → ((n : ℕ) (f : Feed) → v (owing n f) ≡ v f)
@@ -136,7 +139,7 @@ module _ {C S : Type 0} (y : System C S) where
   run-keeps v fixed [] s g a = refl
   run-keeps v fixed (x ∷ xs) s g a =
       let (g′, m) = y .follows x s g (a .0) in
-      run-keeps v fixed xs (x .came .state) g′ (a .1) ∙ ap (λ b. map v (b .feeds)) (m .read) ∙ moved-keeps v fixed (m .move) (y .book s)
+      run-keeps v fixed xs (x .came .state) g′ (a .1) ∙ sym (ap (map v) (m .read .feeds)) ∙ moved-keeps v fixed (m .move) (y .book s)
 
   module _ (xs : List (Did C S)) (s : S) (g : y .Good s) (a : Allowed (y .allows) xs s) where
     pub run-keeps-positions : positions (y .book (after xs s) .feeds) ≡ positions (y .book s .feeds)

@@ -9,6 +9,7 @@ pub mod Step
 pub mod Steps
 pub mod Chosen
 pub mod Order
+pub mod Reordered
 pub mod Calls
 pub mod Load
 pub mod Finish

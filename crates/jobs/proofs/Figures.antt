@@ -8,9 +8,9 @@ use lib.Dec.{leb, eqb}
 use lib.ListN.{length, getD, take, drop, set, length-map}
 use borrow.Author.Tests.{le-leb, lt-leb}
 use Rattle.lists.specs.Lists.{Each, total, bit}
-use Rattle.lists.proofs.Lists.{each, each-imp, each-map, total-append, total-map}
+use Rattle.lists.proofs.Lists.{each, each-imp, each-map, total-map}
 use Rattle.lists.proofs.Places.{each-getD}
-use Rattle.lists.proofs.Maps.{out, total-out, total-set, total-bound, map-same, map-append, map-out, map-set}
+use Rattle.lists.proofs.Maps.{out, total-out, total-set, total-put, total-bound, map-same, map-append, map-take, map-drop, map-out, map-set}
 use Rattle.ticks.specs.Ticks.{ticks}
 use Rattle.jobs.specs.declared.Job.{Job}
 use Rattle.jobs.specs.Jobs.{noJob, job, times}
@@ -94,18 +94,25 @@ by-stored : (F : ℕ → ℕ) (h : Job → Job) (js : List Job) → Figured js
     → ((j : Job) → j .figure .0 ≡ figureIn js j → by F j ≡ h j) → map (by F) js ≡ map h js
 by-stored F h js stored e = map-same (by F) h js (each-imp (λ j. j .figure .0 ≡ figureIn js j) (λ j. by F j ≡ h j) e js stored)
 
--- one more job: those due no earlier show it too, and it shows itself and those due no later
-pub figured-taken : (js : List Job) (j : Job) → Figured js
-    → figured (js ++ (j ∷ [])) ≡ map (raised j) js ++ (showing (owedBy (j .deadline .0) js + j .owed .0) j ∷ [])
-figured-taken js j stored =
-    map-append (by (λ D. owedBy D (js ++ (j ∷ [])))) js (j ∷ [])
-    ∙ ap₂ (λ ks k. ks ++ (k ∷ []))
-    (by-stored (λ D. owedBy D (js ++ (j ∷ []))) (raised j) js stored
-    (λ k e i. showing ((more (k .deadline .0) ∙ ap (_+ owesBy (k .deadline .0) j) (sym e)) i) k))
-    (λ i. showing ((more (j .deadline .0) ∙ ap (owedBy (j .deadline .0) js +_) (owes-by-in (j .deadline .0) j (omega arith))) i) j)
-  where
-    more : (D : ℕ) → owedBy D (js ++ (j ∷ [])) ≡ owedBy D js + owesBy D j
-    more D = total-append (owesBy D) js (j ∷ []) ∙ omega arith
+-- one more job at a place: those due no earlier show it too, and it shows itself and those due no later
+module _ (js : List Job) (j : Job) (m : ℕ) (stored : Figured js) where
+  abbrev after : ℕ → ℕ
+  after D = owedBy D (take m js ++ (j ∷ drop m js))
+
+  more : (D : ℕ) → after D ≡ owedBy D js + owesBy D j
+  more D = total-put (owesBy D) m j js
+
+  others : map (by after) js ≡ map (raised j) js
+  others = by-stored after (raised j) js stored (λ k e i. showing ((more (k .deadline .0) ∙ ap (_+ owesBy (k .deadline .0) j) (sym e)) i) k)
+
+  own : after (j .deadline .0) ≡ owedBy (j .deadline .0) js + j .owed .0
+  own = more (j .deadline .0) ∙ ap (owedBy (j .deadline .0) js +_) (owes-by-in (j .deadline .0) j (omega arith))
+
+  pub figured-put : figured (take m js ++ (j ∷ drop m js))
+      ≡ take m (map (raised j) js) ++ (showing (owedBy (j .deadline .0) js + j .owed .0) j ∷ drop m (map (raised j) js))
+  figured-put =
+      map-append (by after) (take m js) (j ∷ drop m js)
+      ∙ (λ i. (map-take (by after) m js ∙ ap (take m) others) i ++ (showing (own i) j ∷ (map-drop (by after) m js ∙ ap (drop m) others) i))
 
 -- so many ticks of what a job owes
 abbrev pub partOf : ℕ → Job → Job

@@ -15,6 +15,7 @@ use Rattle.jobs.specs.declared.Table.{Table}
 use Rattle.jobs.specs.Jobs.{jobIn, JobIn, unusedJob, noJob, live, tableIn, TableIn}
 use Rattle.jobs.specs.Figures.{figureIn, figureAgrees}
 use Rattle.jobs.proofs.Numbers.{distinct-once, once-distinct}
+use Rattle.jobs.proofs.Sorted.{rising-sorted, sorted-rising}
 
 pub job-in : (charge : Length) (clock : Instant) (j : Job) → jobIn charge clock j ≡ true → JobIn charge clock j
 unfolding jobIn
@@ -73,8 +74,9 @@ table-in charge clock s h =
       few = leb-true _ _ (t .0);
       each = each-of-every (jobIn charge clock) (JobIn charge clock) (job-in charge clock) _ (t .1 .0);
       once = distinct-once _ (t .1 .1 .0);
-      figures = each-of-every (figureAgrees (live s)) (λ j. j .figure .0 ≡ figureIn (live s) j) (λ j. eqb-true _ _) _ (t .1 .1 .1 .0);
-      unused = each-of-every unusedJob (λ j. j ≡ noJob) unused-job _ (t .1 .1 .1 .1 .0);
+      order = rising-sorted (live s) (t .1 .1 .1 .0);
+      figures = each-of-every (figureAgrees (live s)) (λ j. j .figure .0 ≡ figureIn (live s) j) (λ j. eqb-true _ _) _ (t .1 .1 .1 .1 .0);
+      unused = each-of-every unusedJob (λ j. j ≡ noJob) unused-job _ (t .1 .1 .1 .1 .1 .0);
     }
 
 pub table-in-made : (charge : Length) (clock : Instant) (s : Table) → TableIn charge clock s → tableIn charge clock s ≡ true
@@ -87,8 +89,11 @@ table-in-made charge clock s h =
         (
           once-distinct _ (h .once),
           (
-            every-of-each (figureAgrees (live s)) (λ j. j .figure .0 ≡ figureIn (live s) j) (λ j. eq-eqb _ _) _ (h .figures),
-            (every-of-each unusedJob (λ j. j ≡ noJob) unused-job-made _ (h .unused), tt),
+            sorted-rising (live s) (h .order),
+            (
+              every-of-each (figureAgrees (live s)) (λ j. j .figure .0 ≡ figureIn (live s) j) (λ j. eq-eqb _ _) _ (h .figures),
+              (every-of-each unusedJob (λ j. j ≡ noJob) unused-job-made _ (h .unused), tt),
+            ),
           ),
         ),
       ),

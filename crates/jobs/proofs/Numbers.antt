@@ -9,6 +9,7 @@ use lib.ListN.{take, drop}
 use borrow.Author.Tests.{eq-eqb, ne-eqb, eqb-true, eqb-false, not-true}
 use Rattle.lists.specs.Lists.{every, bit}
 use Rattle.lists.proofs.Tests.{both, both-made}
+use Rattle.lists.proofs.Lists.{total-append}
 use Rattle.jobs.specs.declared.Job.{Job}
 use Rattle.jobs.specs.declared.Found.{Found}
 use Rattle.jobs.specs.declared.Found.the-variants.{At, Nothing}
@@ -82,6 +83,16 @@ times-lacks n (j ∷ js) h = go (eqb n (j .number)) refl (times-lacks n js)
         (ap not (ne-eqb (j .number) n (λ f. eqb-false n (j .number) e (sym f))))
         (ih (let none : bit (eqb n (j .number)) ≡ 0 = ap bit e in omega arith))
 
+-- lists that have a number as often say the same of it
+pub lacks-alike : (n : ℕ) (xs ys : List Job) → times n xs ≡ times n ys → lacks n xs ≡ lacks n ys
+lacks-alike n xs ys e = go (lacks n xs) refl (lacks n ys) refl
+  where
+    go : (a : Bool) → lacks n xs ≡ a → (b : Bool) → lacks n ys ≡ b → a ≡ b
+    go true p true q = refl
+    go true p false q = sym (times-lacks n ys (sym e ∙ lacks-times n xs p)) ∙ q
+    go false p true q = sym p ∙ times-lacks n xs (e ∙ lacks-times n ys q)
+    go false p false q = refl
+
 -- no number twice: every number at most once
 pub distinct-once : (js : List Job) → distinct js ≡ true → (n : ℕ) → times n js ≤ 1
 unfolding distinct
@@ -145,7 +156,7 @@ others-here n j js e = ap (λ b. cond (not b) (j ∷ others n js) (others n js))
 others-past : (n : ℕ) (j : Job) (js : List Job) → (j .number ≡ n → ⊥) → others n (j ∷ js) ≡ j ∷ others n js
 others-past n j js e = ap (λ b. cond (not b) (j ∷ others n js) (others n js)) (ne-eqb n (j .number) (λ f. e (sym f)))
 
-not-counted : (n : ℕ) (j : Job) → bit (eqb n (j .number)) ≡ 0 → j .number ≡ n → ⊥
+pub not-counted : (n : ℕ) (j : Job) → bit (eqb n (j .number)) ≡ 0 → j .number ≡ n → ⊥
 not-counted n j z e = let one : bit (eqb n (j .number)) ≡ 1 = ap bit (eq-eqb n (j .number) (sym e)) in omega arith
 
 -- jobs among which the number does not stand stay as they are
@@ -165,3 +176,16 @@ without-others n (suc m) (j ∷ js) h f =
     (without-others n m js (omega arith)
     (record { inside = omega (arith, f .inside); number = f .number; first = omega (arith, f .first) }))
     ∙ sym (others-past n j js (not-counted n j (omega (arith, f .first))))
+
+-- one more job, under a number that none has
+pub times-taken : (js : List Job) (j : Job) → ((n : ℕ) → times n js ≤ 1) → times (j .number) js ≡ 0 → (n : ℕ) → times n (js ++ (j ∷ [])) ≤ 1
+times-taken js j once free n = go (eqb n (j .number)) refl
+  where
+    go : (b : Bool) → eqb n (j .number) ≡ b → times n (js ++ (j ∷ [])) ≤ 1
+    go true e =
+        let none : times n js ≡ 0 = ap (λ m. times m js) (eqb-true n (j .number) e) ∙ free in
+        let one : bit (eqb n (j .number)) ≡ 1 = ap bit e in
+        omega (arith, total-append (λ k. bit (eqb n (k .number))) js (j ∷ []))
+    go false e =
+        let none : bit (eqb n (j .number)) ≡ 0 = ap bit e in
+        omega (arith, total-append (λ k. bit (eqb n (k .number))) js (j ∷ []), once n)

@@ -1,25 +1,25 @@
 -- The places of the table: one more job, one job less, and tables whose unused places are all zero.
 use mathlib.Core.Path.{_≡_, refl, sym, ap, subst, _∙_}
-use mathlib.Core.Bool.{Bool, true, false}
 use lib.Dec.{eqb}
-use borrow.Author.Tests.{eqb-true}
 use mathlib.Core.List.{List, [], _∷_, _++_, map}
 use Prim.Native.Nat.{ℕ, _+_, _-_, _≤_, _<_}
 use native.Mathlib.Omega.{arith}
-use lib.ListN.{length, getD, take, drop, set, length-append, length-set, length-map}
+use lib.ListN.{length, getD, take, drop, set, length-append, length-set, length-map, length-drop}
 use lib.Seq.{length-take-le, getD-take, getD-set-same, paste}
 use Rattle.ticks.specs.declared.Instant.{Instant}
 use Rattle.ticks.specs.declared.Length.{Length}
 use Rattle.lists.specs.Lists.{Each, filled, bit}
-use Rattle.lists.proofs.Places.{filled-more, filled-of-unused, filled-without, length-without, take-filled, length-filled, filled-set, unused-of-filled, changed, changed-all, filled-changed-next}
-use Rattle.lists.proofs.Lists.{each-append, total-append}
+use Rattle.lists.proofs.Places.{filled-put, filled-of-unused, filled-without, length-without, take-filled, length-filled, filled-set, unused-of-filled, changed, changed-all, filled-changed-next}
 use Rattle.jobs.specs.declared.Job.{Job}
 use Rattle.jobs.specs.declared.Table.{Table}
 use Rattle.jobs.specs.declared.Found.the-variants.{At}
 use Rattle.jobs.specs.Jobs.{noJob, mostJobs, live, tableOf, Tidy, times, foundIn, FoundAt, JobIn, TableIn, JobsIn}
 use Rattle.jobs.specs.Served.{lessJob, owingLess}
 use Rattle.jobs.specs.Figures.{owedBy, figured}
-use Rattle.jobs.proofs.Numbers.{found-first}
+use Rattle.jobs.specs.Sorted.{Sorted, insert}
+use Rattle.jobs.proofs.Sorted.{sorted-map, insert-sorted, insert-same, each-insert, others-than}
+use Rattle.lists.proofs.Same.{same-length}
+use Rattle.jobs.proofs.Numbers.{found-first, times-taken}
 use Rattle.jobs.proofs.Figures.{by, figured-stores, figured-out, length-figured, times-figured, each-figured}
 use Rattle.lists.proofs.Maps.{out, out-set, getD-mapped}
 
@@ -60,15 +60,18 @@ found-live t n m k e =
     let f = found-first n m (live t) e in
     (f, omega (arith, f .inside, live-count t k))
 
--- one more job, behind the others
+-- one more job at a place; those from there on have moved up
 pub one-more :
-    (t : Table) (j : Job) → Tidy t → t .count < mostJobs →
-    _≡_ {A = Table} (record { count = t .count + 1; jobs = set (t .jobs) (t .count) j }) (tableOf (live t ++ (j ∷ [])))
-one-more t j k h =
-    let many : t .count ≡ length (live t) = sym (live-count t k) in
-    let count : t .count + 1 ≡ length (live t ++ (j ∷ [])) = ap (λ n. n + 1) many ∙ sym (length-append (live t) (j ∷ [])) in
-    let places : set (t .jobs) (t .count) j ≡ filled mostJobs noJob (live t ++ (j ∷ [])) =
-    (λ i. set (k .filled i .jobs) (many i) j) ∙ filled-more mostJobs noJob j (live t) (omega arith) in
+    (t : Table) (j : Job) (at m : ℕ) → Tidy t → t .count < mostJobs → at + m ≡ t .count →
+    _≡_ {A = Table} (record { count = t .count + 1; jobs = set (paste (t .jobs) (at + 1) (drop at (t .jobs)) m) at j }) (tableOf (take at (live t) ++ (j ∷ drop at (live t))))
+one-more t j at m k h e =
+    let xs = live t in
+    let many : t .count ≡ length xs = sym (live-count t k) in
+    let front : length (take at xs) ≡ at = length-take-le at xs (omega arith) in
+    let back : length (drop at xs) ≡ length xs - at = length-drop at xs in
+    let count : t .count + 1 ≡ length (take at xs ++ (j ∷ drop at xs)) = omega (arith, length-append (take at xs) (j ∷ drop at xs)) in
+    let places : set (paste (t .jobs) (at + 1) (drop at (t .jobs)) m) at j ≡ filled mostJobs noJob (take at xs ++ (j ∷ drop at xs)) =
+    (λ i. set (paste (k .filled i .jobs) (at + 1) (drop at (k .filled i .jobs)) m) at j) ∙ filled-put mostJobs noJob j xs at m (omega arith) (omega arith) in
     λ i. record { count = count i; jobs = places i }
 
 -- the jobs behind one have moved up, and the last place is free
@@ -150,39 +153,33 @@ module _ (t : Table) (k : Tidy t) (at m : ℕ) (h : at < t .count) where
 pub jobs-in : (charge : Length) (clock : Instant) (t : Table) → length (t .jobs) ≡ mostJobs → TableIn charge clock t → JobsIn charge clock (live t)
 jobs-in charge clock t l h =
     let many = live-count t (tidy-in charge clock t l h) in
-    record { few = omega (arith, h .few); each = h .each; once = h .once; figures = h .figures }
+    record { few = omega (arith, h .few); each = h .each; once = h .once; order = h .order; figures = h .figures }
 
 pub jobs-in-table : (charge : Length) (clock : Instant) (js : List Job) → JobsIn charge clock js → TableIn charge clock (tableOf js)
 jobs-in-table charge clock js h =
     let p : JobsIn charge clock (live (tableOf js)) = subst (JobsIn charge clock) (sym (live-of js)) h in
-    record { few = h .few; each = p .each; once = p .once; figures = p .figures; unused = unused-of-filled mostJobs noJob js }
+    record { few = h .few; each = p .each; once = p .once; order = p .order; figures = p .figures; unused = unused-of-filled mostJobs noJob js }
 
 -- jobs in order but for their figures, each with its figure done afresh
 pub jobs-in-figured : (charge : Length) (clock : Instant) (js : List Job) → length js ≤ mostJobs → Each (JobIn charge clock) js
-    → ((n : ℕ) → times n js ≤ 1) → JobsIn charge clock (figured js)
-jobs-in-figured charge clock js few each once =
+    → ((n : ℕ) → times n js ≤ 1) → Sorted js → JobsIn charge clock (figured js)
+jobs-in-figured charge clock js few each once order =
     record {
       few = omega (arith, length-figured js);
       each = each-figured (JobIn charge clock) (λ j n i. record { number = i .number; owed = i .owed; ahead = i .ahead; near = i .near; within = i .within }) js each;
       once = λ n. omega (arith, times-figured n js, once n);
+      order = sorted-map (by (λ D. owedBy D js)) (λ j. refl) (λ j. refl) js order;
       figures = figured-stores js;
     }
 
 -- one more job in order, under a number that no live job has
 pub jobs-in-taken :
     (charge : Length) (clock : Instant) (js : List Job) (j : Job) → JobsIn charge clock js → length js < mostJobs → JobIn charge clock j →
-    times (j .number) js ≡ 0 → JobsIn charge clock (figured (js ++ (j ∷ [])))
+    times (j .number) js ≡ 0 → JobsIn charge clock (figured (insert j js))
 jobs-in-taken charge clock js j h l i free =
-    let more : length (js ++ (j ∷ [])) ≡ length js + 1 = length-append js (j ∷ []) in
-    jobs-in-figured charge clock (js ++ (j ∷ [])) (omega arith)
-    (each-append (JobIn charge clock) js (j ∷ []) (h .each) (i, tt))
-    (λ n. go n (eqb n (j .number)) refl)
-  where
-    go : (n : ℕ) (b : Bool) → eqb n (j .number) ≡ b → times n (js ++ (j ∷ [])) ≤ 1
-    go n true e =
-        let none : times n js ≡ 0 = ap (λ m. times m js) (eqb-true n (j .number) e) ∙ free in
-        let one : bit (eqb n (j .number)) ≡ 1 = ap bit e in
-        omega (arith, total-append (λ k. bit (eqb n (k .number))) js (j ∷ []))
-    go n false e =
-        let none : bit (eqb n (j .number)) ≡ 0 = ap bit e in
-        omega (arith, total-append (λ k. bit (eqb n (k .number))) js (j ∷ []), h .once n)
+    let same = insert-same js j in
+    let more : length (insert j js) ≡ length (js ++ (j ∷ [])) = same-length (insert j js) (js ++ (j ∷ [])) same in
+    jobs-in-figured charge clock (insert j js) (omega (arith, length-append js (j ∷ [])))
+    (each-insert (JobIn charge clock) j js i (h .each))
+    (λ n. omega (arith, same (λ k. bit (eqb n (k .number))), times-taken js j (h .once) free n))
+    (insert-sorted j js (others-than (j .number) js free) (h .order))

@@ -36,6 +36,11 @@ Figured js = Each (λ j. j .figure .0 ≡ figureIn js j) js
 abbrev pub figureAgrees : List Job → Job → Bool
 figureAgrees js j = eqb (j .figure .0) (figureIn js j)
 
+-- the same, told of jobs that stand in order and follow one another: due together they show the same, else the first shows what
+-- the jobs up to it owe
+unfoldable pub agreesBeside : Job → Job → ℕ → Bool
+agreesBeside j k sum = cond (eqb (j .deadline .0) (k .deadline .0)) (eqb (j .figure .0) (k .figure .0)) (eqb (j .figure .0) sum)
+
 -- a job that stores this figure
 abbrev pub showing : ℕ → Job → Job
 showing n j = record { number = j .number; owed = j .owed; deadline = j .deadline; figure = ticks n }

@@ -14,6 +14,7 @@ use Rattle.jobs.specs.declared.Table.{Table}
 use Rattle.jobs.specs.declared.Found.{Found}
 use Rattle.jobs.specs.declared.Found.the-variants.{At, Nothing}
 use Rattle.jobs.specs.Figures.{figureAgrees, Figured}
+use Rattle.jobs.specs.Sorted.{rising, Sorted}
 
 -- as many live jobs as there are places
 abbrev pub mostJobs : ℕ
@@ -31,7 +32,7 @@ noJob = record { number = 0; owed = ticks 0; deadline = instant 0; figure = tick
 abbrev pub job : ℕ → Length → Instant → Job
 job number owed deadline = record { number = number; owed = owed; deadline = deadline; figure = ticks 0 }
 
--- the live jobs, in the order of their yes
+-- the live jobs, in the order of the table
 abbrev pub live : Table → List Job
 live t = take (t .count) (t .jobs)
 
@@ -91,14 +92,15 @@ unfoldable pub unusedJob : Job → Bool
 unusedJob j =
     allOf (eqb (j .number) 0 ∷ eqb (j .owed .0) 0 ∷ eqb (j .deadline .0) 0 ∷ eqb (j .figure .0) 0 ∷ [])
 
--- the jobs of a state in order: at most 64; each in order at the clock's instant; no number twice; each figure the sum done
--- afresh; the unused places all zero
+-- the jobs of a state in order: at most 64; each in order at the clock's instant; no number twice; earliest deadline first, lower
+-- number first on equal ones; each figure the sum done afresh; the unused places all zero
 unfoldable pub tableIn : Length → Instant → Table → Bool
 tableIn charge clock t =
     allOf
     (leb (t .count) mostJobs
     ∷ every (jobIn charge clock) (live t)
     ∷ distinct (live t)
+    ∷ rising (live t)
     ∷ every (figureAgrees (live t)) (live t)
     ∷ every unusedJob (drop (t .count) (t .jobs))
     ∷ [])
@@ -108,6 +110,7 @@ pub record TableIn (charge : Length) (clock : Instant) (t : Table) : Type 0 wher
   pub few : t .count ≤ mostJobs
   pub each : Each (JobIn charge clock) (live t)
   pub once : (n : ℕ) → times n (live t) ≤ 1
+  pub order : Sorted (live t)
   pub figures : Figured (live t)
   pub unused : Each (λ j. j ≡ noJob) (drop (t .count) (t .jobs))
 
@@ -116,6 +119,7 @@ pub record JobsIn (charge : Length) (clock : Instant) (js : List Job) : Type 0 w
   pub few : length js ≤ mostJobs
   pub each : Each (JobIn charge clock) js
   pub once : (n : ℕ) → times n js ≤ 1
+  pub order : Sorted js
   pub figures : Figured js
 
 -- the jobs with another number

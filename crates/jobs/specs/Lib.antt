@@ -1,3 +1,4 @@
 pub mod Figures
+pub mod Sorted
 pub mod Jobs
 pub mod Served

@@ -1,11 +1,11 @@
-// The live jobs: what each still owes and by when, in a table in the order of their yes, and beside each the figure on the
+// The live jobs: what each still owes and by when, in a table in the order of their deadlines, and beside each the figure on the
 // screen: what all live jobs due no later still owe together. Look-up by number, taking one more, taking one out, serving
 // one, and the part of a state in order that concerns jobs.
 // It must not know feeds, nor what fits, nor who is served.
 use ticks::Instant;
 use ticks::Length;
 ghost use mathlib.Core.Path.{_≡_};
-ghost use mathlib.Core.Bool.{not};
+ghost use mathlib.Core.Bool.{true, not};
 ghost use mathlib.Core.List.{[], _∷_, _++_};
 ghost use Prim.Native.Nat.{ℕ, _+_, _*_, _≤_, _<_, _^_};
 ghost use lib.ListN.{getD, take, drop};
@@ -14,7 +14,8 @@ ghost use Rattle.lists.specs.Lists.{every, Each};
 ghost use Rattle.ticks.specs.Ticks.{mostCharge, ticks};
 ghost use Rattle.jobs.specs.Jobs.{mostJobs, numbersAJob, noJob, job, jobIn, unusedJob, live, tableOf, Tidy, foundIn, distinct};
 ghost use Rattle.jobs.specs.Jobs.{tableIn, times, lacks, others};
-ghost use Rattle.jobs.specs.Figures.{owesBy, owedBy, mostOwed, Modest, showing, raised, lowered, figured, Figured, figureAgrees};
+ghost use Rattle.jobs.specs.Figures.{owesBy, owedBy, mostOwed, Modest, showing, raised, lowered, figured, Figured, figureAgrees, agreesBeside};
+ghost use Rattle.jobs.specs.Sorted.{before, rising, Sorted, placeOf, insert};
 ghost use Rattle.jobs.specs.Served.{Owing, owingLess, served};
 
 // A customer's export that was promised: it still owes `owed` ticks before the deadline.
@@ -27,7 +28,8 @@ pub struct Job {
     pub figure: Length,
 }
 
-// The live jobs stand at the front, in the order of their yes; the places after them are all zero.
+// The live jobs stand at the front, earliest deadline first, lower number first on equal ones; the places after them are all
+// zero.
 #[repr(C)]
 pub struct Table {
     pub count: usize,
@@ -95,6 +97,27 @@ impl Job {
         self.owed
     }
 
+    // The earlier deadline first, then the lower number.
+    fn before(self, other: Job) -> bool
+        ensures { λ r. ⌜ r ≡ before self other ⌝ }
+    {
+        if self.deadline.0 == other.deadline.0 {
+            return self.number < other.number;
+        }
+        self.deadline.0 < other.deadline.0
+    }
+
+    // This job's figure beside that of the job after it, or where that one is due later beside what has been added up with this
+    // one.
+    fn agrees(self, after: Job, sum: u64) -> bool
+        ensures { λ r. ⌜ r ≡ agreesBeside self after sum ⌝ }
+    {
+        if self.deadline.0 == after.deadline.0 {
+            return self.figure.0 == after.figure.0;
+        }
+        self.figure.0 == sum
+    }
+
     fn showing(self, figure: Length) -> Job
         ensures { λ r. ⌜ r ≡ showing (figure .0) self ⌝ }
     {
@@ -156,6 +179,9 @@ impl Job {
 }
 
 impl Table {
+    // As many marks as a byte has values.
+    const MARKS: u32 = 256;
+
     pub fn none() -> Table
         ensures { λ r. ⌜ r ≡ tableOf [] ⌝ }
     {
@@ -217,8 +243,26 @@ impl Table {
         }
     }
 
-    // Both loops stand here: a look from outside at each job in turn would copy the table each time.
-    fn no_number_twice(self) -> bool
+    // A mark for each number by its lowest byte, set as the jobs are passed: where none is set already, no number stands twice.
+    fn no_mark_twice(self) -> bool
+        requires { ⌜ self .count ≤ mostJobs ⌝ }
+        ensures { λ r. ⌜ (r ≡ true → distinct (live self) ≡ true) ⌝ }
+    {
+        let count = self.count;
+        let mut marks = [0u8; Table::MARKS as usize];
+        for i in 0..count {
+            let mark = (self.jobs[i].number % Table::MARKS) as usize;
+            if marks[mark] == 1 {
+                return false;
+            }
+            marks[mark] = 1;
+        }
+        true
+    }
+
+    // Each number beside those behind it. Both loops stand here: a look from outside at each job in turn would copy the table
+    // each time.
+    fn numbers_differ(self) -> bool
         requires { ⌜ self .count ≤ mostJobs ⌝ }
         ensures { λ r. ⌜ r ≡ distinct (live self) ⌝ }
     {
@@ -234,36 +278,65 @@ impl Table {
         true
     }
 
-    // What the live jobs due by an instant still owe together.
-    pub fn owed_by(self, by: Instant) -> Length
-        requires { ⌜ (self .count ≤ mostJobs) × Each Modest (live self) ⌝ }
-        ensures { λ r. ⌜ (r ≡ ticks (owedBy (by .0) (live self))) × (r .0 ≤ mostJobs * mostOwed) ⌝ }
+    // Only where two share a mark is each number looked at beside the others.
+    fn no_number_twice(self) -> bool
+        requires { ⌜ self .count ≤ mostJobs ⌝ }
+        ensures { λ r. ⌜ r ≡ distinct (live self) ⌝ }
     {
-        let count = self.count;
-        let mut sum = 0;
-        for i in 0..count {
-            sum += self.jobs[i].owes_by(by).0;
+        if self.no_mark_twice() {
+            return true;
         }
-        Length(sum)
+        self.numbers_differ()
     }
 
-    // Each figure is the sum done afresh. Both loops stand here too.
-    fn figures_agree(self) -> bool
-        requires { ⌜ (self .count ≤ mostJobs) × Each Modest (live self) ⌝ }
-        ensures { λ r. ⌜ r ≡ every (figureAgrees (live self)) (live self) ⌝ }
+    // Each job stands before the next.
+    fn rising(self) -> bool
+        requires { ⌜ self .count ≤ mostJobs ⌝ }
+        ensures { λ r. ⌜ r ≡ rising (live self) ⌝ }
     {
         let count = self.count;
-        for i in 0..count {
-            let job = self.jobs[i];
-            let mut sum = 0;
-            for k in 0..count {
-                sum += self.jobs[k].owes_by(job.deadline).0;
-            }
-            if job.figure.0 != sum {
+        for i in 1..count {
+            if !self.jobs[i - 1].before(self.jobs[i]) {
                 return false;
             }
         }
         true
+    }
+
+    // Each figure is the sum done afresh, in one pass: those due together show the same, and the last of them all that has been
+    // added up.
+    fn figures_agree(self) -> bool
+        requires { ⌜ (self .count ≤ mostJobs) × Each Modest (live self) × Each (λ j. 0 < j .deadline .0) (live self) × Sorted (live self) ⌝ }
+        ensures { λ r. ⌜ r ≡ every (figureAgrees (live self)) (live self) ⌝ }
+    {
+        let count = self.count;
+        let mut sum = 0;
+        let mut last = Job::NONE;
+        for i in 0..count {
+            let job = self.jobs[i];
+            if !last.agrees(job, sum) {
+                return false;
+            }
+            sum += job.owed.0;
+            last = job;
+        }
+        last.figure.0 == sum
+    }
+
+    // What the live jobs due by an instant still owe together: what the last of them shows.
+    pub fn owed_by(self, by: Instant) -> Length
+        requires { ⌜ (self .count ≤ mostJobs) × Sorted (live self) × Figured (live self) ⌝ }
+        ensures { λ r. ⌜ r ≡ ticks (owedBy (by .0) (live self)) ⌝ }
+    {
+        let mut left = self.count;
+        while 0 < left {
+            left = left - 1;
+            let job = self.jobs[left];
+            if !job.deadline.is_after(by) {
+                return job.figure;
+            }
+        }
+        Length::NONE
     }
 
     // Whether any table that is handed in is in order at this instant, under this charge. What each job owes is bounded
@@ -279,6 +352,9 @@ impl Table {
             return false;
         }
         if !self.no_number_twice() {
+            return false;
+        }
+        if !self.rising() {
             return false;
         }
         if !self.figures_agree() {
@@ -315,17 +391,45 @@ impl Table {
         table
     }
 
-    // One more job, behind the others. It shows what those due no later owe, and itself.
-    pub fn taken(self, job: Job) -> Table
-        requires { ⌜ Tidy self × (self .count < mostJobs) × Each Modest (live self) × Figured (live self) × Modest job ⌝ }
-        ensures { λ r. ⌜ r ≡ tableOf (figured (live self ++ (job ∷ []))) ⌝ }
+    // Where a job has its place: before the first that it stands before.
+    fn place_of(self, job: Job) -> usize
+        requires { ⌜ self .count ≤ mostJobs ⌝ }
+        ensures { λ r. ⌜ r ≡ placeOf job (live self) ⌝ }
     {
-        let at = self.count;
-        let figure = self.owed_by(job.deadline).and(job.owed);
-        let mut table = self.raised(job);
-        table.jobs[at] = job.showing(figure);
-        table.count = at + 1;
+        let count = self.count;
+        for i in 0..count {
+            if job.before(self.jobs[i]) {
+                return i;
+            }
+        }
+        count
+    }
+
+    // One more job at a place; those from there on move up. No figure changes.
+    fn put(self, at: usize, job: Job) -> Table
+        requires { ⌜ Tidy self × (self .count < mostJobs) × (at ≤ self .count) ⌝ }
+        ensures { λ r. ⌜ r ≡ tableOf (take at (live self) ++ (job ∷ drop at (live self))) ⌝ }
+    {
+        let count = self.count;
+        let behind = count - at;
+        let mut table = self;
+        for i in 0..behind {
+            let other = self.jobs[at + i];
+            table.jobs[at + i + 1] = other;
+        }
+        table.jobs[at] = job;
+        table.count = count + 1;
         table
+    }
+
+    // One more job, in its place. It shows what those due no later owe, and itself.
+    pub fn taken(self, job: Job) -> Table
+        requires { ⌜ Tidy self × (self .count < mostJobs) × Sorted (live self) × Each Modest (live self) × Figured (live self) × Modest job ⌝ }
+        ensures { λ r. ⌜ r ≡ tableOf (figured (insert job (live self))) ⌝ }
+    {
+        let at = self.place_of(job);
+        let figure = self.owed_by(job.deadline).and(job.owed);
+        self.raised(job).put(at, job.showing(figure))
     }
 
     // One job out; those behind it close up. No figure changes.

@@ -1,5 +1,5 @@
 -- Reading a state as a book and writing a book into it undo one another.
-use mathlib.Core.Path.{_≡_, refl, sym, ap, _∙_}
+use mathlib.Core.Path.{_≡_, refl, sym, ap, subst, _∙_}
 use mathlib.Core.List.{List, [], _∷_, map, map-map, map-id}
 use Prim.Native.Nat.{ℕ, suc}
 use native.Mathlib.Omega.{arith}
@@ -11,15 +11,20 @@ use Rattle.feeds.specs.Feeds.{owing, inUse, plansOf, feedsOf}
 use Rattle.feeds.proofs.Passing.{in-use-of}
 use Rattle.jobs.specs.declared.Job.{Job}
 use Rattle.jobs.specs.Jobs.{live, tableOf}
-use Rattle.jobs.specs.Figures.{owedBy, figured}
+use Rattle.lists.specs.Lists.{total, SameElements}
+use Rattle.lists.proofs.Lists.{total-map}
+use Rattle.jobs.specs.Figures.{owedBy, Figured, figured}
+use Rattle.jobs.specs.Sorted.{Sorted, sorted}
 use Rattle.jobs.proofs.Figures.{by, figured-own, figured-again}
+use Rattle.jobs.proofs.Sorted.{sorted-same, sorted-own, sorted-map, map-sorted}
 use Rattle.jobs.proofs.Places.{live-of}
 use Rattle.edf.specs.Book as edf
+use Rattle.edf.specs.Reordered.{Reordered}
 use Rattle.answers.specs.declared.Who.{Who}
 use Rattle.answers.specs.declared.Who.the-variants as who
 use Rattle.ledger.specs.declared.Ledger.{Ledger}
 use Rattle.ledger.specs.State.{moved, InOrder}
-use Rattle.ledger.specs.Books.{bookPlan, bookFeed, bookFeeds, bookJob, bookOf, jobOf, owingAs, rewritten, whoOf, whoIs, SameFeeds}
+use Rattle.ledger.specs.Books.{bookPlan, bookFeed, bookFeeds, bookJob, bookOf, jobOf, owingAs, rewritten, InTableOrder, whoOf, whoIs, SameFeeds}
 
 -- the heads and the tails of lists that are the same
 module _ {A : Type 0} (x y : A) (xs ys : List A) (e : x ∷ xs ≡ y ∷ ys) where
@@ -66,32 +71,65 @@ read-owing-as charge k (g ∷ gs) (f ∷ fs) p q =
     let rest = read-owing-as charge (suc k) gs fs (tail-same (g .position) k (edf.positions gs) (edf.positions (bookFeeds charge (suc k) fs)) p) (tail-same (g .plan) (bookPlan charge (f .plan)) (edf.plans gs) (edf.plans (bookFeeds charge (suc k) fs)) q) in
     λ i. record { position = sym at i; plan = sym plan i; owes = g .owes } ∷ rest i
 
--- jobs are written from their book with the figures done afresh
-pub jobs-of-book : (js : List Job) → figured (map jobOf (map bookJob js)) ≡ figured js
-jobs-of-book js = ap figured (map-map jobOf bookJob js) ∙ figured-again (λ D. 0) js
+-- a job written from its own book has no figure yet
+abbrev bare : Job → Job
+bare = by (λ D. 0)
 
--- and the book does not look at figures
+-- jobs are written from their book in the order of the table, the figures done afresh
+pub jobs-of-book : (js : List Job) → figured (sorted (map jobOf (map bookJob js))) ≡ figured (sorted js)
+jobs-of-book js =
+    ap (λ ks. figured (sorted ks)) (map-map jobOf bookJob js)
+    ∙ ap figured (map-sorted bare (λ j. refl) (λ j. refl) js)
+    ∙ figured-again (λ D. 0) (sorted js)
+
+-- and as they were where they stood so
+pub jobs-of-book-own : (js : List Job) → Sorted js → Figured js → figured (sorted (map jobOf (map bookJob js))) ≡ js
+jobs-of-book-own js s f = jobs-of-book js ∙ ap figured (sorted-own js s) ∙ figured-own js f
+
+-- the book does not look at figures
 pub book-of-figured : (js : List Job) → map bookJob (figured js) ≡ map bookJob js
 book-of-figured js = map-map bookJob (by (λ D. owedBy D js)) js
 
-pub book-of-jobs : (js : List edf.Job) → map bookJob (figured (map jobOf js)) ≡ js
-book-of-jobs js = book-of-figured (map jobOf js) ∙ map-map bookJob jobOf js ∙ map-id js
+-- the jobs of a book, written and read again, are the same in another order
+book-of-jobs : (js : List edf.Job) → SameElements js (map bookJob (figured (sorted (map jobOf js))))
+book-of-jobs js f =
+    ap (total f) (sym (map-map bookJob jobOf js ∙ map-id js))
+    ∙ total-map f bookJob (map jobOf js)
+    ∙ sym (sorted-same (map jobOf js) (λ j. f (bookJob j)))
+    ∙ sym (total-map f bookJob (sorted (map jobOf js)))
+    ∙ sym (ap (total f) (book-of-figured (sorted (map jobOf js))))
 
--- WRITTEN INTO THE STATE, A BOOK IS READ AS IT WAS
-pub book-of-rewritten : (l : Ledger) (b : edf.Book) → SameFeeds l b → bookOf (rewritten l b) ≡ b
-book-of-rewritten l b s =
-    let gs = owingAs (b .feeds) (inUse (l .feeds)) in
-    let fs : bookFeeds (l .charge) 1 (inUse (feedsOf gs)) ≡ b .feeds
-    = ap (bookFeeds (l .charge) 1) (in-use-of gs) ∙ read-owing-as (l .charge) 1 (b .feeds) (inUse (l .feeds)) (s .positions) (s .plans) in
-    let js : map bookJob (live (tableOf (figured (map jobOf (b .jobs))))) ≡ b .jobs
-    = ap (map bookJob) (live-of (figured (map jobOf (b .jobs)))) ∙ book-of-jobs (b .jobs) in
-    λ i. record { clock = b .clock; feeds = fs i; jobs = js i }
+-- and in the same order where they stood in that of the table
+book-of-jobs-own : (js : List edf.Job) → Sorted (map jobOf js) → map bookJob (figured (sorted (map jobOf js))) ≡ js
+book-of-jobs-own js s = book-of-figured (sorted (map jobOf js)) ∙ ap (map bookJob) (sorted-own (map jobOf js) s) ∙ map-map bookJob jobOf js ∙ map-id js
+
+module _ (l : Ledger) (b : edf.Book) (s : SameFeeds l b) where
+  feeds-read : bookOf (rewritten l b) .feeds ≡ b .feeds
+  feeds-read =
+      let gs = owingAs (b .feeds) (inUse (l .feeds)) in
+      ap (bookFeeds (l .charge) 1) (in-use-of gs) ∙ read-owing-as (l .charge) 1 (b .feeds) (inUse (l .feeds)) (s .positions) (s .plans)
+
+  jobs-read : bookOf (rewritten l b) .jobs ≡ map bookJob (figured (sorted (map jobOf (b .jobs))))
+  jobs-read = ap (map bookJob) (live-of (figured (sorted (map jobOf (b .jobs)))))
+
+  -- WRITTEN INTO THE STATE, A BOOK IS READ AS IT WAS BUT FOR THE ORDER OF ITS JOBS
+  pub book-of-rewritten : Reordered b (bookOf (rewritten l b))
+  book-of-rewritten = record { clock = refl; feeds = sym feeds-read; jobs = λ f. book-of-jobs (b .jobs) f ∙ ap (total f) (sym jobs-read) }
+
+  -- AND AS IT WAS WHERE THEY STOOD IN THE ORDER OF THE TABLE
+  pub book-of-rewritten-own : InTableOrder b → bookOf (rewritten l b) ≡ b
+  book-of-rewritten-own o = λ i. record { clock = b .clock; feeds = feeds-read i; jobs = (jobs-read ∙ book-of-jobs-own (b .jobs) o) i }
+
+-- the book of a state in order has its jobs in the order of the table
+pub book-in-table-order : (l : Ledger) → InOrder l → InTableOrder (bookOf l)
+book-in-table-order l h =
+    subst Sorted (sym (map-map jobOf bookJob (live (l .table)))) (sorted-map bare (λ j. refl) (λ j. refl) (live (l .table)) (h .jobs .order))
 
 -- A STATE IS WRITTEN BACK FROM ITS OWN BOOK AS IT WAS
 pub rewritten-own : (l : Ledger) → InOrder l → rewritten l (bookOf l) ≡ l
 rewritten-own l h =
     let fs = ap feedsOf (owing-as-read (l .charge) 1 (inUse (l .feeds))) ∙ sym (h .tidyFeeds .filled) in
-    let js = ap tableOf (jobs-of-book (live (l .table)) ∙ figured-own (live (l .table)) (h .jobs .figures)) ∙ sym (h .tidyTable .filled) in
+    let js = ap tableOf (jobs-of-book-own (live (l .table)) (h .jobs .order) (h .jobs .figures)) ∙ sym (h .tidyTable .filled) in
     λ i. moved l (l .clock) (fs i) (js i)
 
 pub who-back : (w : edf.Who) → whoOf (whoIs w) ≡ w

@@ -26,7 +26,10 @@ use Rattle.feeds.proofs.Passing.{feeds-pass, feeds-tidy, feeds-pass-made, in-us
 use Rattle.feeds.proofs.Same.{same-passing}
 use Rattle.jobs.specs.declared.Job.{Job}
 use Rattle.jobs.specs.Jobs.{JobIn, JobsIn, live, tableOf}
+use Rattle.lists.proofs.Same.{same-length}
 use Rattle.jobs.specs.Figures.{figured}
+use Rattle.jobs.specs.Sorted.{sorted}
+use Rattle.jobs.proofs.Sorted.{sorted-same, sorted-sorted, each-sorted}
 use Rattle.jobs.proofs.Limits.{table-in, table-in-made}
 use Rattle.jobs.proofs.Places as jobs
 use Rattle.edf.specs.Book as edf
@@ -183,11 +186,14 @@ pieces-written c t k (f ∷ fs) h = (
 
 -- the jobs of a book that a table can hold
 jobs-written : (c : Length) (b : edf.Book) → BookInOrder b → length (b .jobs) ≤ Rattle.jobs.specs.Jobs.mostJobs
-    → Each (JobHeld c (b .clock)) (b .jobs) → JobsIn c (instant (b .clock)) (figured (map jobOf (b .jobs)))
+    → Each (JobHeld c (b .clock)) (b .jobs) → JobsIn c (instant (b .clock)) (figured (sorted (map jobOf (b .jobs))))
 unfolding eq
 jobs-written c b o few h =
-    let many : length (map jobOf (b .jobs)) ≡ length (b .jobs) = length-map (b .jobs) jobOf in
-    jobs.jobs-in-figured c (instant (b .clock)) (map jobOf (b .jobs)) (omega arith)
+    let js = map jobOf (b .jobs) in
+    let many : length (sorted js) ≡ length (b .jobs) = same-length (sorted js) js (sorted-same js) ∙ length-map (b .jobs) jobOf in
+    let once : (n : ℕ) → total (λ j. bit (eqb n (j .number))) js ≤ 1 = λ n. subst (_≤ 1) (sym (total-map (λ j. bit (eqb n (j .number))) jobOf (b .jobs))) (o .numbers n) in
+    jobs.jobs-in-figured c (instant (b .clock)) (sorted js) (omega arith)
+    (each-sorted (JobIn c (instant (b .clock))) js
     (each-map (JobIn c (instant (b .clock))) jobOf (b .jobs)
     (each-imp (λ j. JobInOrder (b .clock) j × JobHeld c (b .clock) j) (λ j. JobIn c (instant (b .clock)) (jobOf j))
     (λ j k. record {
@@ -198,15 +204,16 @@ jobs-written c b o few h =
       within = k .1 .within;
     })
     (b .jobs)
-    (each-both (JobInOrder (b .clock)) (JobHeld c (b .clock)) (b .jobs) (o .jobs) h)))
-    (λ n. subst (_≤ 1) (sym (total-map (λ j. bit (eqb n (j .number))) jobOf (b .jobs))) (o .numbers n))
+    (each-both (JobInOrder (b .clock)) (JobHeld c (b .clock)) (b .jobs) (o .jobs) h))))
+    (λ n. omega (arith, sorted-same js (λ j. bit (eqb n (j .number))), once n))
+    (sorted-sorted js once)
 
 -- AND BACK: a book that can be written into a state in order makes a state in order
 pub rewritten-in-order : (l : Ledger) (b : edf.Book) → InOrder l → Held l b → InOrder (rewritten l b)
 rewritten-in-order l b o h =
     let fs = inUse (l .feeds) in
     let gs = owingAs (b .feeds) fs in
-    let js = figured (map jobOf (b .jobs)) in
+    let js = figured (sorted (map jobOf (b .jobs))) in
     let c = l .charge in
     let passing : Passing c gs = same-passing fs gs (sym (owing-as-plans (b .feeds) fs)) c (o .feeds .passing) in
     let read : bookFeeds c 1 gs ≡ b .feeds = read-owing-as c 1 (b .feeds) fs (h .feeds .positions) (h .feeds .plans) in

@@ -14,6 +14,7 @@ use Rattle.feeds.specs.Feeds.{owing, inUse, feedsOf}
 use Rattle.jobs.specs.declared.Job.{Job}
 use Rattle.jobs.specs.Jobs.{mostJobs, job, live, tableOf}
 use Rattle.jobs.specs.Figures.{figured}
+use Rattle.jobs.specs.Sorted.{Sorted, sorted}
 use Rattle.answers.specs.declared.Who.{Who}
 use Rattle.answers.specs.declared.Who.the-variants as who
 use Rattle.edf.specs.Book as edf
@@ -56,11 +57,15 @@ owingAs [] fs = fs
 owingAs (g ∷ gs) [] = []
 owingAs (g ∷ gs) (f ∷ fs) = owing (ticks (g .owes)) f ∷ owingAs gs fs
 
--- the state written anew from a book: the clock, what is owed and the jobs are the book's, the figures done afresh;
--- everything else stays
+-- the state written anew from a book: the clock, what is owed and the jobs are the book's, the jobs in the order of the table
+-- and the figures done afresh; everything else stays
 abbrev pub rewritten : Ledger → edf.Book → Ledger
 rewritten l b =
-    moved l (instant (b .clock)) (feedsOf (owingAs (b .feeds) (inUse (l .feeds)))) (tableOf (figured (map jobOf (b .jobs))))
+    moved l (instant (b .clock)) (feedsOf (owingAs (b .feeds) (inUse (l .feeds)))) (tableOf (figured (sorted (map jobOf (b .jobs)))))
+
+-- the jobs of a book stand in the order of the table
+abbrev pub InTableOrder : edf.Book → Type 0
+InTableOrder b = Sorted (map jobOf (b .jobs))
 
 -- whom a tick goes to, here and in the mathematics
 abbrev pub whoOf : Who → edf.Who

@@ -5,15 +5,16 @@ use Prim.Native.Nat.{ℕ}
 use Rattle.ticks.specs.Ticks.{ticks, instant}
 use Rattle.jobs.specs.Jobs.{job}
 use Rattle.jobs.specs.Figures.{owesBy, figured}
+use Rattle.jobs.specs.Sorted.{before, insert, sorted}
 use Rattle.answers.specs.declared.Who.the-variants.{Job, Feed, Idle}
-use Rattle.listing.specs.Order.{goesFirst, firstAt, orderOf, listOrder, words}
+use Rattle.listing.specs.Words.{words}
 use Rattle.listing.specs.Labels.{recordFrom, labelOf, place, nowhere}
 
 -- job 7 is due first and shows itself alone; 2 and 3 are due together, so both show all three
 in-order :
-    words (listOrder (figured (job 3 (ticks 1) (instant 9) ∷ job 7 (ticks 2) (instant 4) ∷ job 2 (ticks 5) (instant 9) ∷ [])))
+    words (figured (sorted (job 3 (ticks 1) (instant 9) ∷ job 7 (ticks 2) (instant 4) ∷ job 2 (ticks 5) (instant 9) ∷ [])))
     ≡ 7 ∷ 2 ∷ 4 ∷ 2 ∷ 2 ∷ 5 ∷ 9 ∷ 8 ∷ 3 ∷ 1 ∷ 9 ∷ 8 ∷ []
-unfolding goesFirst firstAt orderOf owesBy
+unfolding before insert sorted owesBy
 in-order = refl
 
 -- eight bytes of a label

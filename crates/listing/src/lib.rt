@@ -1,4 +1,4 @@
-// What a caller reads off the desk into lists of its own: the live jobs in order, and the label of the one that runs.
+// What a caller reads off the desk into lists of its own: the live jobs, and the label of the one that runs.
 // It must not know feeds, refusals, nor who the runner is.
 use answers::Who;
 use jobs::Job;
@@ -7,8 +7,8 @@ ghost use mathlib.Core.Path.{_≡_};
 ghost use mathlib.Core.List.{_++_};
 ghost use Prim.Native.Nat.{_+_, _*_, _≤_, _<_};
 ghost use lib.ListN.{length, take, drop};
-ghost use Rattle.jobs.specs.Jobs.{mostJobs, numbersAJob, live, Tidy};
-ghost use Rattle.listing.specs.Order.{goesFirst, firstAt, listOrder, wordsOf, words};
+ghost use Rattle.jobs.specs.Jobs.{numbersAJob, live, Tidy};
+ghost use Rattle.listing.specs.Words.{wordsOf, words};
 ghost use Rattle.listing.specs.Labels.{bigEndian, recordOf, jobPlace, feedPlace, labelOf, PartAt};
 
 // A part of one of the two lent lists: 1 the job labels, 2 the feed labels; where it begins, and how many bytes it has.
@@ -38,32 +38,6 @@ const LABEL: usize = 8;
 
 const RECORD: usize = NUMBER + LABEL;
 
-// The earlier deadline first, then the lower number.
-fn goes_first(job: Job, other: Job) -> bool
-    ensures { λ r. ⌜ r ≡ goesFirst job other ⌝ }
-{
-    if job.deadline.0 == other.deadline.0 {
-        return job.number <= other.number;
-    }
-    job.deadline.0 < other.deadline.0
-}
-
-// The place of the job that goes before all the others.
-fn first_of(table: Table) -> usize
-    requires { ⌜ (0 < table .count) × (table .count ≤ mostJobs) ⌝ }
-    ensures { λ r. ⌜ r ≡ firstAt (live table) ⌝ }
-{
-    let mut at = table.count - 1;
-    let mut i = at;
-    while 0 < i {
-        i = i - 1;
-        if goes_first(table.jobs[i], table.jobs[at]) {
-            at = i;
-        }
-    }
-    at
-}
-
 // The numbers of a job, from one place of the buffer on.
 fn put(buffer: &mut [u64], at: usize, job: Job)
     requires { ⌜ at + numbersAJob ≤ length (now buffer) ⌝ }
@@ -75,18 +49,15 @@ fn put(buffer: &mut [u64], at: usize, job: Job)
     buffer[at + 3] = job.figure.0;
 }
 
-// The live jobs into the front of the buffer; the rest of it is untouched.
+// The live jobs into the front of the buffer, as they stand in the table; the rest of it is untouched.
 pub fn list(table: Table, buffer: &mut [u64]) -> usize
     requires { ⌜ Tidy table × (numbersAJob * table .count ≤ length (now buffer)) ⌝ }
-    ensures { λ r. ⌜ (r ≡ length (live table)) × (now (buffer .exit) ≡ words (listOrder (live table)) ++ drop (numbersAJob * table .count) (now (buffer .entry))) ⌝ }
+    ensures { λ r. ⌜ (r ≡ length (live table)) × (now (buffer .exit) ≡ words (live table) ++ drop (numbersAJob * table .count) (now (buffer .entry))) ⌝ }
 {
     let count = table.count;
-    let mut left = table;
     for i in 0..count {
-        let at = first_of(left);
-        let job = left.jobs[at];
+        let job = table.jobs[i];
         put(buffer, Job::NUMBERS * i, job);
-        left = left.without(at);
     }
     count
 }

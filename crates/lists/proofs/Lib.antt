@@ -4,3 +4,4 @@ pub mod Numbers
 pub mod Pairs
 pub mod Places
 pub mod Maps
+pub mod Same

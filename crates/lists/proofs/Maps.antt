@@ -3,9 +3,10 @@ use mathlib.Core.Path.{_≡_, refl, ap, ap₂, _∙_}
 use mathlib.Core.List.{List, [], _∷_, _++_, map}
 use Prim.Native.Nat.{ℕ, zero, suc, _+_, _*_, _≤_, _<_}
 use native.Mathlib.Omega.{arith}
-use lib.ListN.{length, getD, take, drop, set}
+use lib.ListN.{length, getD, take, drop, set, take-append-drop}
 use lib.Seq.{take-set-le, drop-set-lt}
 use Rattle.lists.specs.Lists.{Each, total}
+use Rattle.lists.proofs.Lists.{total-append}
 
 module _ {A : Type 0} where
   -- the list but the element at a place
@@ -30,6 +31,11 @@ module _ {A : Type 0} where
   total-set f zero d x (y ∷ ys) h = omega arith
   total-set f (suc at) d x (y ∷ ys) h = omega (arith, total-set f at d x ys (omega arith))
 
+  -- one more at a place: what it counts comes to the rest
+  pub total-put : (f : A → ℕ) (at : ℕ) (x : A) (xs : List A) → total f (take at xs ++ (x ∷ drop at xs)) ≡ total f xs + f x
+  total-put f at x xs =
+      omega (arith, total-append f (take at xs) (x ∷ drop at xs), total-append f (take at xs) (drop at xs), ap (total f) (take-append-drop at xs))
+
   -- each counts no more than a bound
   pub total-bound : (f : A → ℕ) (m : ℕ) (xs : List A) → Each (λ x. f x ≤ m) xs → total f xs ≤ length xs * m
   total-bound f m [] h = omega arith
@@ -45,12 +51,12 @@ module _ {A B : Type 0} where
   map-append f [] ys = refl
   map-append f (x ∷ xs) ys = ap (f x ∷_) (map-append f xs ys)
 
-  map-drop : (f : A → B) (n : ℕ) (xs : List A) → map f (drop n xs) ≡ drop n (map f xs)
+  pub map-drop : (f : A → B) (n : ℕ) (xs : List A) → map f (drop n xs) ≡ drop n (map f xs)
   map-drop f zero xs = refl
   map-drop f (suc n) [] = refl
   map-drop f (suc n) (x ∷ xs) = map-drop f n xs
 
-  map-take : (f : A → B) (n : ℕ) (xs : List A) → map f (take n xs) ≡ take n (map f xs)
+  pub map-take : (f : A → B) (n : ℕ) (xs : List A) → map f (take n xs) ≡ take n (map f xs)
   map-take f zero xs = refl
   map-take f (suc n) [] = refl
   map-take f (suc n) (x ∷ xs) = ap (f x ∷_) (map-take f n xs)

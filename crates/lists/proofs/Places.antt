@@ -181,6 +181,35 @@ module _ {A : Type 0} where
     unfolding left
     length-without = length-left
 
+  -- the places from one on have moved up by one, and it has a new element
+  pub filled-put :
+      (n : ℕ) (z x : A) (xs : List A) (at m : ℕ) → at + m ≡ length xs → length xs < n →
+      set (paste (filled n z xs) (at + 1) (drop at (filled n z xs)) m) at x ≡ filled n z (take at xs ++ (x ∷ drop at xs))
+  filled-put n z x xs at m e l =
+      let r = replicate (n - length xs) z in
+      let front : take at (xs ++ r) ≡ take at xs = take-append-le at xs r (omega arith) in
+      let long : length (take at xs) ≡ at = length-take-le at xs (omega arith) in
+      let all : length (xs ++ r) ≡ n = length-filled n z xs (omega arith) in
+      let one : take (at + 1) (xs ++ r) ≡ take at xs ++ (getD (xs ++ r) at z ∷ []) =
+      ap (λ k. take k (xs ++ r)) (add-one at) ∙ take-suc (xs ++ r) at z (omega arith) ∙ ap (λ k. k ++ (getD (xs ++ r) at z ∷ [])) front in
+      let behind : length (drop at xs) ≡ m = length-drop at xs ∙ omega arith in
+      let middle : take m (drop at (xs ++ r)) ≡ drop at xs =
+      ap (take m) (drop-append-le at xs r (omega arith)) ∙ take-at (drop at xs) r m behind in
+      let rest : drop (at + 1 + m) (xs ++ r) ≡ replicate (n - suc (length xs)) z = rest-of (n - suc (length xs)) (omega arith) in
+      let more : length (take at xs ++ (x ∷ drop at xs)) ≡ suc (length xs) = length-append (take at xs) (x ∷ drop at xs) ∙ omega arith in
+      (λ t. set ((one t ++ middle t) ++ rest t) at x)
+      ∙ ap (λ k. set k at x) (append-assoc (take at xs ++ (getD (xs ++ r) at z ∷ [])) (drop at xs) (replicate (n - suc (length xs)) z) ∙ append-assoc (take at xs) (getD (xs ++ r) at z ∷ []) (drop at xs ++ replicate (n - suc (length xs)) z))
+      ∙ set-at (take at xs) (getD (xs ++ r) at z) (drop at xs ++ replicate (n - suc (length xs)) z) x at long
+      ∙ sym (append-assoc (take at xs) (x ∷ drop at xs) (replicate (n - suc (length xs)) z))
+      ∙ ap (λ k. (take at xs ++ (x ∷ drop at xs)) ++ replicate (n - k) z) (sym more)
+    where
+      rest-of : (k : ℕ) → n - length xs ≡ suc k → drop (at + 1 + m) (xs ++ replicate (n - length xs) z) ≡ replicate k z
+      rest-of k q =
+          let at-end : at + 1 + m ≡ length (xs ++ (z ∷ [])) = omega (arith, e, length-append xs (z ∷ [])) in
+          ap (λ c. drop (at + 1 + m) (xs ++ replicate c z)) q
+          ∙ ap (drop (at + 1 + m)) (sym (append-assoc xs (z ∷ []) (replicate k z)))
+          ∙ drop-at (xs ++ (z ∷ [])) (replicate k z) (at + 1 + m) (sym at-end)
+
   pub each-take : (P : A → Type 0) (n : ℕ) (xs : List A) → Each P xs → Each P (take n xs)
   each-take P zero xs e = tt
   each-take P (suc n) [] e = tt

@@ -1,4 +1,5 @@
 -- Sums, tests and statements over a list.
+use mathlib.Core.Path.{_≡_}
 use mathlib.Core.Logic.{_⊎_}
 use mathlib.Core.Bool.{Bool, true, false, cond, _&&_}
 use mathlib.Core.List.{List, [], _∷_, _++_}
@@ -49,6 +50,10 @@ module _ {A : Type 0} where
   -- the list at the front of an array of n places, the rest of which is unused
   abbrev pub filled : ℕ → A → List A → List A
   filled n none xs = xs ++ replicate (n - length xs) none
+
+  -- the same elements in whatever order: all that can be counted of the one list comes to the same in the other
+  abbrev pub SameElements : List A → List A → Type 0
+  SameElements xs ys = (f : A → ℕ) → total f xs ≡ total f ys
 
   -- the two lists are as long as each other, and R holds of each two that stand at the same place
   abbrev pub Pairs : (A → A → Type 0) → List A → List A → Type 0

@@ -55,7 +55,7 @@ module _ (d : Desk) where
       go (No x) e = ap (λ q. chargeIn (q .desk)) (a .stopped x e)
 
 -- one call
-call-keeps : (x : Did Call Desk) (d : Desk) → allows (x .call) d (x .came) → chargeIn (x .came .state) ≡ chargeIn d
+pub call-keeps : (x : Did Call Desk) (d : Desk) → allows (x .call) d (x .came) → chargeIn (x .came .state) ≡ chargeIn d
 unfolding allows stepOf endOf restOf
 call-keeps x d a = go (x .call) a
   where

@@ -31,7 +31,8 @@ use Rattle.edf.proofs.Calls.{taking-in-order}
 use Rattle.edf.proofs.Equality.{fits-iff-room}
 use Rattle.ledger.specs.State.{Sized, InOrder}
 use Rattle.ledger.specs.Books.{bookJob, whoIs}
-use Rattle.ledger.proofs.Books.{book-of-rewritten}
+use Rattle.ledger.proofs.Books.{book-of-rewritten, book-of-rewritten-own, book-in-table-order}
+use Rattle.edf.specs.Reordered.{Reordered}
 use Rattle.ledger.proofs.InOrder.{in-order, state-in-order, state-light}
 use Rattle.desk.specs.declared.Desk.{Desk}
 use Rattle.desk.specs.declared.Answer.{Answer}
@@ -39,13 +40,13 @@ use Rattle.desk.specs.State.{book, rewritten}
 use Rattle.desk.specs.Calls.{disorder, stepLines, stepOf, runnerOf}
 use Rattle.desk.specs.Asking.{requested, with-job, Judged}
 use Rattle.desk.proofs.Asking.{admissible, asked-once}
-use Rattle.desk.proofs.Reachable.{admissible-askable}
+use Rattle.desk.proofs.Reachable.{admissible-askable, step-in-table-order}
 use Rattle.questions.specs.Meshes.{AskedMesh}
 use Rattle.promises.specs.Exact.{TakenIfItFits, TakenExactlyIfItFits, AMeshIsTakenExactlyIfItFits, FitsIsRoom, OneAnswer}
 use Rattle.promises.specs.Exact.{NamesTheFirst, served, FeedTurned, StepRule, EveryStepByTheRule, TheLabelIsTheRunners}
 
 -- the desk with the job written into it is read as the book with the job
-with-job-read : (d : Desk) (j : Job) → book (rewritten d (with-job d j)) ≡ with-job d j
+with-job-read : (d : Desk) (j : Job) → Reordered (with-job d j) (book (rewritten d (with-job d j)))
 unfolding taking
 with-job-read d j = book-of-rewritten (d .ledger) (with-job d j) (record { positions = refl; plans = refl })
 
@@ -57,7 +58,7 @@ by-fits d j r (inl y) =
     record {
       yes = (λ e. y .0, λ f. said);
       no = (λ e. absurd (yes-is-not-no DoesNotFit (sym said ∙ e)), λ n. absurd (n (y .0)));
-      has = λ e. ap book kept ∙ with-job-read d j;
+      has = λ e. subst (λ x. Reordered (with-job d j) (book x)) (sym kept) (with-job-read d j);
       desk = λ e. kept;
     }
 by-fits d j r (inr n) =
@@ -120,7 +121,8 @@ module _ (d : Desk) (s : Sized (d .ledger)) (e : firstOf (stepLines d) ≡ Yes) 
   pub step-read : book (stepOf d .desk) ≡ step (book d)
   step-read =
       ap book step-hands-back
-      ∙ book-of-rewritten (d .ledger) (step (book d)) (record { positions = step-keeps-positions (book d); plans = step-keeps-plans (book d) })
+      ∙ book-of-rewritten-own (d .ledger) (step (book d)) (record { positions = step-keeps-positions (book d); plans = step-keeps-plans (book d) })
+      (step-in-table-order (book d) (book-in-table-order (d .ledger) steps-in-order))
 
   turned-served : book (stepOf d .desk) ≡ turn (served d)
   unfolding step stepBy

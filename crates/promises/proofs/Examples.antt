@@ -20,6 +20,8 @@ use Rattle.feeds.specs.Pieces.{pieceIn}
 use Rattle.jobs.specs.declared.Job.{Job}
 use Rattle.jobs.specs.Jobs.{tableOf, live, lacks, distinct, unusedJob, tableIn}
 use Rattle.jobs.specs.Figures.{figured}
+use Rattle.jobs.specs.Sorted.{before, rising, insert, sorted}
+use Rattle.edf.proofs.Reordered.{reordered-sym, reordered-fits}
 use Rattle.edf.specs.Book.{Book}
 use Rattle.edf.specs.Releases as edf
 use Rattle.edf.specs.Owed.{byThen, owedBy, RoomBelow}
@@ -82,7 +84,7 @@ module _ (d : Desk) (number work lead : ℕ) where
 
   -- the state with the job that is asked for
   abbrev more : Ledger
-  more = moved (d .ledger) (d .ledger .clock) (d .ledger .feeds) (tableOf (figured (live (d .ledger .table) ++ (job ∷ []))))
+  more = moved (d .ledger) (d .ledger .clock) (d .ledger .feeds) (tableOf (figured (insert job (live (d .ledger .table)))))
 
   -- up to the horizon there is time for what is owed
   abbrev fitting : Bool
@@ -106,7 +108,9 @@ module _ (d : Desk) (number work lead : ℕ) where
   fitting-says : Admissible d job → FitsSays fitting (with-job d job)
   fitting-says a =
       let o = taken-in-order d job a _ refl in
-      subst (FitsSays fitting) (taken-book d job a _ refl) (fits-says more fitting o (enough-says _ _ (state-in-order more o)))
+      let same = taken-book d job a _ refl in
+      let said = fits-says more fitting o (enough-says _ _ (state-in-order more o)) in
+      record { yes = λ e. reordered-fits _ _ (reordered-sym _ _ same) (said .yes e); no = λ e f. said .no e (reordered-fits _ _ same f) }
 
   judged-is : (fits : Bool) (r : Answer) → FitsSays fits (with-job d job) → Judged d job r → r ≡ answering (firstOf (sixth fits))
   unfolding Judged firstOf
@@ -169,5 +173,5 @@ tested-holds r e =
 pub the-table-holds : Each Holds table
 unfolding every tested openedOf feedsIn firstOf allOf plans.planIn roundOf firstFrom carries then pass asking opened edf.since
     inOrder feedsPass passes unusedFeed plans.unusedPlan pieceIn tableIn lacks distinct unusedJob
-    enough horizonOf lastDue latestOf plans.next plans.since owedBy byThen taking resting restOf
+    enough before rising insert sorted horizonOf lastDue latestOf plans.next plans.since owedBy byThen taking resting restOf
 the-table-holds = each-of-every tested Holds tested-holds table refl

@@ -12,9 +12,11 @@ use Rattle.mesh.specs.Meshes.{trianglesOf, meshLines}
 use Rattle.jobs.specs.declared.Job.{Job}
 use Rattle.jobs.specs.Jobs.{numbersAJob, live}
 use Rattle.jobs.specs.Figures.{Figured, figured}
+use Rattle.jobs.specs.Sorted.{sorted}
+use Rattle.jobs.proofs.Sorted.{sorted-own}
 use Rattle.jobs.proofs.Figures.{figured-stores, figured-own}
 use Rattle.jobs.proofs.Places.{live-of}
-use Rattle.listing.specs.Order.{listOrder, words}
+use Rattle.listing.specs.Words.{words}
 use Rattle.answers.specs.declared.Refusal.the-variants.{DoesNotFit}
 use Rattle.answers.specs.declared.Verdict.{Verdict}
 use Rattle.answers.specs.declared.Verdict.the-variants.{Yes, No}
@@ -50,7 +52,7 @@ every-figure-is-the-sum o cs m =
 
 -- a state that a book was written into has true figures, whatever the book
 written-true : (d : Desk) (b : Book) → TrueFigures (rewritten d b)
-written-true d b = subst Figured (sym (live-of (figured (map jobOf (b .jobs))))) (figured-stores (map jobOf (b .jobs)))
+written-true d b = subst Figured (sym (live-of (figured (sorted (map jobOf (b .jobs)))))) (figured-stores (sorted (map jobOf (b .jobs))))
 
 -- where nothing is refused
 either-true : (v : Verdict) (d : Desk) (b : Book) → v ≡ Yes → TrueFigures (onYes v (rewritten d b) d)
@@ -100,5 +102,6 @@ unfolding TheListShowsTheSums countedOf listedOf
 the-list-shows-the-sums d buffer s e =
     let js = live (d .ledger .table) in
     let fine = not-false (inOrder (d .ledger)) (yes-first (disorder d) _ e .0) in
-    ap (λ v. onYes v (words (listOrder js) ++ drop (numbersAJob * d .ledger .table .count) buffer) buffer) e
-    ∙ ap (λ l. words (listOrder l) ++ drop (numbersAJob * d .ledger .table .count) buffer) (sym (figured-own js (ordered-true d s fine)))
+    let o = in-order (d .ledger) s fine .jobs in
+    ap (λ v. onYes v (words js ++ drop (numbersAJob * d .ledger .table .count) buffer) buffer) e
+    ∙ ap (λ l. words l ++ drop (numbersAJob * d .ledger .table .count) buffer) (sym (ap figured (sorted-own js (o .order)) ∙ figured-own js (o .figures)))

@@ -17,6 +17,7 @@ use Rattle.edf.specs.Runs.{Did, after, Allowed, named}
 use Rattle.edf.specs.Kept as edf
 use Rattle.edf.specs.Load as load
 use Rattle.edf.proofs.Runs.{allowed-append, run-is-good}
+use Rattle.edf.proofs.Reordered.{reordered-live}
 use Rattle.edf.proofs.Kept.{job-is-kept, piece-is-kept}
 use Rattle.edf.proofs.Promises as edfPromises
 use Rattle.edf.proofs.Service.{Has}
@@ -49,7 +50,7 @@ module _ (d : Desk) (g : Good d) (number work lead : ℕ) (r : Answer) (a : Aske
   owed = work + d .ledger .charge .0
 
   asked-live : edf.Live number (d .ledger .clock .0 + lead) owed (book (r .desk))
-  asked-live = subst (edf.Live number (d .ledger .clock .0 + lead) owed) (sym (ask-book d g number work lead r a y)) (edfPromises.taken-is-live (book d) (bookJob (requested d number work lead)))
+  asked-live = reordered-live _ _ (ask-book d g number work lead r a y) number (d .ledger .clock .0 + lead) owed (edfPromises.taken-is-live (book d) (bookJob (requested d number work lead)))
 
   asked-kept : (later : Calls) → Made later (r .desk) → JobKept number (d .ledger .clock .0 + lead) owed later (r .desk)
   asked-kept later m = job-is-kept desks later (r .desk) number (d .ledger .clock .0 + lead) owed (ask-is-good d g number work lead r a) m asked-live

@@ -18,6 +18,7 @@ use Rattle.edf.specs.Fits.{Fits}
 use Rattle.edf.specs.Step as edf
 use Rattle.edf.specs.Runs.{Came, Did}
 use Rattle.edf.specs.Calls as calls
+use Rattle.edf.specs.Reordered.{Reordered}
 use Rattle.edf.proofs.Runs.{Makes, makes-nothing, takes-a-job, steps-once, ends-a-job, rests-a-feed, System}
 use Rattle.ledger.specs.Books.{bookJob, whoOf, whoIs}
 use Rattle.ledger.proofs.Books.{who-back}
@@ -60,7 +61,7 @@ module _ (x : Did Call Desk) (d : Desk) (g : Good d) where
           let j = requested d number work lead in (
             subst Good (sym state) (ask-is-good d g number work lead r a),
             takes-a-job book Ends Rests x d (bookJob j) (admissible-askable d j (admissible d number work lead (g .sized) p)) (judged-fits d j r (a .judged p) y)
-                (ap book state ∙ ask-book d g number work lead r a y)
+                (subst (λ c. Reordered (with-job d j) (book c)) (sym state) (ask-book d g number work lead r a y))
                 (ap (λ c. c .ticks) e),
           )
       go (No z) n = unchanged (state ∙ ask-refused d number work lead r a z n) (ap (λ c. c .ticks) e)

@@ -16,6 +16,7 @@ use Rattle.answers.specs.declared.Refusal.the-variants.{DoesNotFit, TooMuchLoad
 use Rattle.answers.specs.declared.Verdict.the-variants.{Yes, No}
 use Rattle.answers.specs.Answers.{firstOf}
 use Rattle.edf.specs.Book.{Feed, Book}
+use Rattle.edf.specs.Reordered.{Reordered}
 use Rattle.edf.specs.Releases.{since}
 use Rattle.edf.specs.Fits.{Fits}
 use Rattle.edf.specs.Owed.{Room}
@@ -32,12 +33,12 @@ use Rattle.desk.specs.Calls.{disorder, stepLines, stepOf, runnerOf}
 use Rattle.desk.specs.Asking.{askLines, requested, with-job, Asked}
 use Rattle.questions.specs.Meshes.{AskedMesh}
 
--- the answer is yes exactly if the job fits, and 6 exactly if it does not; with a yes the desk has the job beside all it had,
--- and nothing else of it changes
+-- the answer is yes exactly if the job fits, and 6 exactly if it does not; with a yes the desk has the job beside all it had, in
+-- whatever order, and nothing else of it changes
 pub record TakenIfItFits (d : Desk) (j : Job) (r : Answer) : Type 0 where
   pub yes : (r .verdict ≡ Yes) ↔ Fits (with-job d j)
   pub no : (r .verdict ≡ No DoesNotFit) ↔ (Fits (with-job d j) → ⊥)
-  pub has : r .verdict ≡ Yes → book (r .desk) ≡ with-job d j
+  pub has : r .verdict ≡ Yes → Reordered (with-job d j) (book (r .desk))
   pub desk : r .verdict ≡ Yes → r .desk ≡ rewritten d (with-job d j)
 
 -- where no other line stops it, a request is taken exactly if it fits

@@ -6,7 +6,8 @@ use Prim.Native.Nat.{ℕ, _*_}
 use lib.ListN.{length, drop}
 use Rattle.jobs.specs.Jobs.{numbersAJob, live}
 use Rattle.jobs.specs.Figures.{Figured, figured}
-use Rattle.listing.specs.Order.{listOrder, words}
+use Rattle.jobs.specs.Sorted.{sorted}
+use Rattle.listing.specs.Words.{words}
 use Rattle.answers.specs.declared.Refusal.the-variants.{NotInOrder}
 use Rattle.answers.specs.declared.Verdict.the-variants.{Yes, No}
 use Rattle.answers.specs.Answers.{Line, firstOf}
@@ -41,8 +42,8 @@ unfoldable pub AWrongFigureGets13 : Type 0
 AWrongFigureGets13 =
     (d : Desk) → Sized (d .ledger) → (TrueFigures d → ⊥) → (ls : List Line) → firstOf (disorder d ∷ ls) ≡ No NotInOrder
 
--- the list call writes the sums done afresh
+-- the list call writes the live jobs, earliest deadline first and lower number first on equal ones, with the sums done afresh
 unfoldable pub TheListShowsTheSums : Type 0
 TheListShowsTheSums =
     (d : Desk) (buffer : List ℕ) → Sized (d .ledger) → countedOf d (length buffer) .verdict ≡ Yes
-    → listedOf d buffer ≡ words (listOrder (figured (live (d .ledger .table)))) ++ drop (numbersAJob * d .ledger .table .count) buffer
+    → listedOf d buffer ≡ words (figured (sorted (live (d .ledger .table)))) ++ drop (numbersAJob * d .ledger .table .count) buffer

@@ -7,6 +7,7 @@ pub mod Total
 pub mod Exact
 pub mod Kept
 pub mod Figures
+pub mod Arrival
 pub mod Load
 pub mod Finish
 pub mod Overbooked

@@ -9,6 +9,9 @@ use Rattle.ticks.specs.Ticks.{ticks}
 use Rattle.jobs.specs.declared.Job.{Job}
 use Rattle.jobs.specs.Jobs.{tableOf, live}
 use Rattle.jobs.specs.Figures.{figured}
+use Rattle.jobs.specs.Sorted.{insert}
+use Rattle.edf.specs.Reordered.{Reordered}
+use Rattle.edf.proofs.Reordered.{reordered-sym, reordered-fits, reordered-overbooked, reordered-tightest}
 use Rattle.edf.specs.Fits.{Fits}
 use Rattle.edf.specs.Owed.{owedBy}
 use Rattle.edf.specs.Calls.{taking}
@@ -100,16 +103,16 @@ explained-once d number work lead v w a b = go (firstOf (askLines d number (tick
 -- the instant that decides the book with the job says whether it fits
 module _ (d : Desk) (j : Job) (a : Admissible d j) where
   abbrev all : Ledger
-  all = moved (d .ledger) (d .ledger .clock) (d .ledger .feeds) (tableOf (figured (live (d .ledger .table) ++ (j ∷ []))))
+  all = moved (d .ledger) (d .ledger .clock) (d .ledger .feeds) (tableOf (figured (insert j (live (d .ledger .table)))))
 
-  read : bookOf all ≡ with-job d j
-  read = taken-book d j a (all .table) refl
+  same : Reordered (with-job d j) (bookOf all)
+  same = taken-book d j a (all .table) refl
 
   short-does-not-fit : (D : ℕ) → FirstOverbooked (with-job d j) D → Fits (with-job d j) → ⊥
-  short-does-not-fit D p f = overbooked-is-refused all D (taken-in-order d j a (all .table) refl) (rw read p) (rw read f)
+  short-does-not-fit D p f = overbooked-is-refused all D (taken-in-order d j a (all .table) refl) (reordered-overbooked _ _ same D p) (reordered-fits _ _ same f)
 
   room-fits : (D : ℕ) → Tightest (with-job d j) D → Fits (with-job d j)
-  room-fits D p = rw (sym read) (tightest-is-taken all D (taken-in-order d j a (all .table) refl) (rw read p))
+  room-fits D p = reordered-fits _ _ (reordered-sym _ _ same) (tightest-is-taken all D (taken-in-order d j a (all .table) refl) (reordered-tightest _ _ same D p))
 
 -- WHAT IS TOLD IS WHAT AN ASK ANSWERS
 pub why-agrees-with-ask : (d : Desk) (number work lead : ℕ) (w : Because) (r : Answer) → Sized (d .ledger) → Explained d number work lead w → Asked d number work lead r

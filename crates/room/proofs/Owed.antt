@@ -14,8 +14,9 @@ use Rattle.plans.proofs.Plans.{since-lt}
 use Rattle.feeds.specs.declared.Feed.{Feed}
 use Rattle.feeds.specs.Feeds.{FeedIn, inUse}
 use Rattle.feeds.specs.Pieces.{PieceIn}
-use Rattle.jobs.specs.Jobs.{JobIn, live}
-use Rattle.jobs.specs.Figures.{Modest, owesBy}
+use Rattle.jobs.specs.Jobs.{mostJobs, JobIn, live}
+use Rattle.jobs.specs.Figures.{mostOwed, Modest, owesBy}
+use Rattle.jobs.proofs.Figures.{owed-by-bound}
 use Rattle.edf.specs.Releases as releases
 use Rattle.edf.specs.Pieces.{jobPiece}
 use Rattle.edf.specs.Owed.{byThen, dueBy, laterCount, laterBy, owedBy}
@@ -110,6 +111,10 @@ owed-by-is l D =
 module _ (l : Ledger) (o : InOrder l) where
   pub jobs-modest : Each Modest (live (l .table))
   jobs-modest = each-imp (JobIn (l .charge) (l .clock)) Modest (λ j k. omega (arith, k .owed .1, o .charge)) (live (l .table)) (o .jobs .each)
+
+  -- 64 of them owe no more together than as many times the most
+  pub jobs-owe-little : (D : ℕ) → total (owesBy D) (live (l .table)) ≤ mostJobs * mostOwed
+  jobs-owe-little D = omega (arith, owed-by-bound D (live (l .table)) jobs-modest, o .jobs .few)
 
   pub feeds-ordered : Each (FeedOrdered (l .charge) (l .clock)) (inUse (l .feeds))
   feeds-ordered = each-both FeedIn (PieceIn (l .charge) (l .clock)) (inUse (l .feeds)) (o .feeds .passing .within) (o .feeds .pieces)

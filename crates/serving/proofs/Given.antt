@@ -13,6 +13,8 @@ use Rattle.feeds.specs.Feeds.{plansOf}
 use Rattle.feeds.proofs.Same.{served-plans}
 use Rattle.jobs.specs.declared.Job.{Job}
 use Rattle.jobs.specs.Figures.{figured}
+use Rattle.jobs.specs.Sorted.{Sorted, sorted}
+use Rattle.jobs.proofs.Sorted.{sorted-own, sorted-map, sorted-keep}
 use Rattle.jobs.specs.Served.{Owing, servedJob, served}
 use Rattle.answers.specs.declared.Who.{Who}
 use Rattle.answers.specs.declared.Who.the-variants as who
@@ -74,7 +76,16 @@ jobs-read (who.Job n) js o = jobs-served n js
 jobs-read (who.Feed p) js o = sym (jobs-unserved (edf.feed p) js (λ n. refl) o)
 jobs-read who.Idle js o = sym (jobs-unserved edf.idle js (λ n. refl) o)
 
+-- a tick leaves the order of the jobs
+given-sorted : (w : Who) (js : List Job) → Sorted js → Sorted (servedJobs w js)
+given-sorted (who.Job n) js s = sorted-keep (λ j. ltb 0 (j .owed .0)) (map (servedJob n) js) (sorted-map (servedJob n) (λ j. refl) (λ j. refl) js s)
+given-sorted (who.Feed p) js s = s
+given-sorted who.Idle js s = s
+
 -- and written from them, the figures done afresh
-pub jobs-given : (w : Who) (js : List Job) → Each Owing js
-    → figured (servedJobs w js) ≡ figured (map jobOf (keep (λ j. ltb 0 (j .owes)) (map (serveJob (whoOf w)) (map bookJob js))))
-jobs-given w js o = sym (jobs-of-book (servedJobs w js)) ∙ ap (λ ks. figured (map jobOf ks)) (jobs-read w js o)
+pub jobs-given : (w : Who) (js : List Job) → Each Owing js → Sorted js
+    → figured (servedJobs w js) ≡ figured (sorted (map jobOf (keep (λ j. ltb 0 (j .owes)) (map (serveJob (whoOf w)) (map bookJob js)))))
+jobs-given w js o s =
+    ap figured (sym (sorted-own (servedJobs w js) (given-sorted w js s)))
+    ∙ sym (jobs-of-book (servedJobs w js))
+    ∙ ap (λ ks. figured (sorted (map jobOf ks))) (jobs-read w js o)

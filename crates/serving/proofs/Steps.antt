@@ -16,6 +16,7 @@ use Rattle.feeds.proofs.Passing.{in-use-of, tidy-of}
 use Rattle.feeds.proofs.Same.{same-length, same-within}
 use Rattle.jobs.specs.Jobs.{JobIn, live, tableOf}
 use Rattle.jobs.specs.Figures.{figured}
+use Rattle.jobs.specs.Sorted.{sorted}
 use Rattle.jobs.specs.Served.{Owing}
 use Rattle.answers.specs.declared.Who.{Who}
 use Rattle.edf.specs.Step.{serve, turnFeed, turn, stepBy, step, runner}
@@ -66,9 +67,9 @@ module _ (l : Ledger) (o : InOrder l) where
       ∙ ap (λ ks. owingAs (map (turnFeed x) ks) fs) (feeds-given (l .charge) w fs)
       ∙ ap (λ g. owingAs (stepBy g (bookOf l) .feeds) fs) (sym e)
 
-  jobs-stepped : (w : Who) → runner (bookOf l) .who ≡ whoOf w → figured (servedJobs w (live (l .table))) ≡ figured (map jobOf (step (bookOf l) .jobs))
+  jobs-stepped : (w : Who) → runner (bookOf l) .who ≡ whoOf w → figured (servedJobs w (live (l .table))) ≡ figured (sorted (map jobOf (step (bookOf l) .jobs)))
   unfolding step stepBy turn serve
-  jobs-stepped w e = jobs-given w (live (l .table)) owing-jobs ∙ ap (λ g. figured (map jobOf (stepBy g (bookOf l) .jobs))) (sym e)
+  jobs-stepped w e = jobs-given w (live (l .table)) owing-jobs (o .jobs .order) ∙ ap (λ g. figured (sorted (map jobOf (stepBy g (bookOf l) .jobs)))) (sym e)
 
   -- THE STATE AFTER A STEP
   pub given-stepped : (w : Who) → runner (bookOf l) .who ≡ whoOf w → given l w ≡ rewritten l (step (bookOf l))

@@ -18,6 +18,7 @@ ghost use Rattle.ticks.specs.Ticks.{ticks};
 ghost use Rattle.feeds.specs.Feeds.{mostFeeds, inUse, feedsOf, FeedIn, Tidy as TidyFeeds};
 ghost use Rattle.jobs.specs.Jobs.{mostJobs, live, tableOf, times, Tidy as TidyTable};
 ghost use Rattle.jobs.specs.Figures.{Figured, figured};
+ghost use Rattle.jobs.specs.Sorted.{Sorted};
 ghost use Rattle.jobs.specs.Served.{Owing};
 ghost use Rattle.edf.specs.Step.{kind, runner};
 ghost use Rattle.ledger.specs.State.{InOrder};
@@ -151,19 +152,15 @@ fn foremost_feed(feeds: Feeds, clock: Instant) -> Piece
     best
 }
 
-// The job that goes before all others and before this piece, or the piece itself.
+// The first job of the table goes before all other jobs; it or this piece, whichever goes first.
 fn foremost_job(table: Table, piece: Piece) -> Piece
-    requires { ⌜ table .count ≤ mostJobs ⌝ }
+    requires { ⌜ (table .count ≤ mostJobs) × Each Owing (live table) × Sorted (live table) ⌝ }
     ensures { λ r. ⌜ r ≡ foremostOver (jobFronts (live table)) piece ⌝ }
 {
-    let mut best = piece;
-    let mut i = table.count;
-    while 0 < i {
-        i -= 1;
-        let job = Piece::of_job(table.jobs[i]);
-        best = job.first_of(best);
+    if table.count == 0 {
+        return piece;
     }
-    best
+    Piece::of_job(table.jobs[0]).first_of(piece)
 }
 
 // Whom the next tick goes to.

@@ -8,6 +8,7 @@ use mir.ValLaws.{toZ-ofZ}
 use borrow.Author.Needs.{needs}
 use borrow.Author.Tests.{ltb-true, ltb-false}
 use Rattle.edf.specs.Book.{Book}
+use Rattle.edf.proofs.Reordered.{reordered-sym, reordered-owed, reordered-telling}
 use Rattle.answers.specs.declared.Refusal.the-variants.{DoesNotFit}
 use Rattle.answers.specs.declared.Verdict.the-variants.{Yes, No}
 use Rattle.ledger.specs.State.{InOrder}
@@ -37,9 +38,13 @@ tells : (c : tie.After-tightest) → Tells (c .before .before .before .before .a
 tells c =
     let start = c .before .before .before .before in
     let r = c .tightest .result in
-    subst (λ b. Tells (start .args .desk .ledger .clock) b r)
-    (taken-book (start .args .desk) (start .args .job) (start .pre) _ (c .before .before .taken .ensures))
-    (subst (λ l. Tells (l .clock) (bookOf l) r) (c .before .moved .ensures) (c .tightest .ensures))
+    let same = taken-book (start .args .desk) (start .args .job) (start .pre) _ (c .before .before .taken .ensures) in
+    let said = subst (λ l. Tells (l .clock) (bookOf l) r) (c .before .moved .ensures) (c .tightest .ensures) in
+    record {
+      telling = reordered-telling _ _ (reordered-sym _ _ same) (r .at .0) (said .telling);
+      reach = said .reach;
+      owed = said .owed ∙ sym (reordered-owed _ _ same (r .at .0));
+    }
 
 -- it is after the clock
 after : (c : tie.After-tightest) → c .before .before .before .before .args .desk .ledger .clock .0 < c .tightest .result .at .0

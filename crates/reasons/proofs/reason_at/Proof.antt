@@ -14,13 +14,13 @@ use Rattle.edf.specs.Calls.{taking}
 use Rattle.ledger.specs.Books.{bookOf, bookJob}
 use Rattle.jobs.specs.Figures.{mostOwed}
 use Rattle.jobs.proofs.Figures.{owes-by-le}
-use Rattle.room.proofs.Owed.{jobs-modest, feeds-ordered}
+use Rattle.room.proofs.Owed.{jobs-owe-little, feeds-ordered}
 use Rattle.reasons.proofs.Parts.{parts-make-owed}
 use Rattle.reasons.proofs.reason_at.Statement.{statement}
 use Rattle.reasons.proofs.reason_at.Tie as tie
 
 owed-by-requires : tie.Need-owed-by-requires
-owed-by-requires c κs = let p = c .before .pre in (p .0 .tidyTable .few, jobs-modest _ (p .0))
+owed-by-requires c κs = let p = c .before .pre in (p .0 .tidyTable .few, p .0 .jobs .order, p .0 .jobs .figures)
 
 feeds-owe-requires : tie.Need-feeds-owe-requires
 feeds-owe-requires c κs = let p = c .before .before .pre in (p .0 .tidyFeeds .few, feeds-ordered _ (p .0), p .0 .charge, p .2)
@@ -35,7 +35,7 @@ modest c =
 
 -- all that is owed is far below what a signed number holds
 small : (c : tie.After-owes-by) → c .before .before .owed-by .result .0 + c .before .feeds-owe .result + c .owes-by .result .0 < 2 ^ 63
-small c = omega (arith, c .before .before .owed-by .ensures .1, c .before .feeds-owe .ensures .1, modest c)
+small c = omega (arith, ap (λ l. l .0) (c .before .before .owed-by .ensures), jobs-owe-little (start c .args .ledger) (start c .pre .0) (start c .args .at .0), c .before .feeds-owe .ensures .1, modest c)
 
 -- and so is the time until the instant
 soon : (c : tie.After-ticks-since) → c .ticks-since .result .0 < 2 ^ 63
@@ -50,7 +50,7 @@ whole : (c : tie.After-owes-by) → c .before .before .owed-by .result .0 + c .b
 whole c =
     omega (
       arith,
-      ap (λ l. l .0) (c .before .before .owed-by .ensures .0),
+      ap (λ l. l .0) (c .before .before .owed-by .ensures),
       c .before .feeds-owe .ensures .0,
       ap (λ l. l .0) (c .owes-by .ensures),
       parts-make-owed (start c .args .ledger) (start c .args .job) (start c .args .at .0),
@@ -66,7 +66,7 @@ returns c =
     let owes = c .before .before .before .before in
     λ i. record {
       at = start owes .args .at;
-      jobs = owes .before .before .owed-by .ensures .0 i;
+      jobs = owes .before .before .owed-by .ensures i;
       feeds = ticks (owes .before .feeds-owe .ensures .0 i);
       job = owes .owes-by .ensures i;
       margin = (toZ-ofZ w64 (c .margin .result) (search needs) ∙ told c) i;

@@ -1,10 +1,11 @@
--- `serving::foremost` meets its contract: the foremost feed, then the jobs before it.
+-- `serving::foremost` meets its contract: the foremost feed, or the first job before it.
 use mathlib.Core.Path.{ap, _∙_}
 use native.Mathlib.Omega.{arith}
 use Rattle.feeds.specs.Feeds.{inUse}
 use Rattle.jobs.specs.Jobs.{live}
 use Rattle.serving.specs.Front.{foremostOver, jobFronts}
 use Rattle.serving.proofs.Front.{foremost-is-runner}
+use Rattle.serving.proofs.Steps.{owing-jobs}
 use Rattle.serving.proofs.foremost.Statement.{statement}
 use Rattle.serving.proofs.foremost.Tie as tie
 
@@ -13,7 +14,9 @@ foremost-feed-requires c κs =
     (c .pre .tidyFeeds .few, c .pre .feeds .passing .within, omega (arith, c .pre .clock))
 
 foremost-job-requires : tie.Need-foremost-job-requires
-foremost-job-requires c κs = c .before .pre .tidyTable .few
+foremost-job-requires c κs =
+    let o = c .before .pre in
+    (o .tidyTable .few, owing-jobs (c .before .args .ledger) o, o .jobs .order)
 
 returns : tie.Need-returns
 returns c =

@@ -7,6 +7,7 @@ use Rattle.room.specs.Walk.{FitsSays}
 use Rattle.ledger.specs.State.{InOrder}
 use Rattle.ledger.specs.Books.{bookOf}
 use Rattle.ledger.proofs.InOrder.{in-order}
+use Rattle.edf.proofs.Reordered.{reordered-fits, reordered-sym}
 use Rattle.desk.specs.State.{with}
 use Rattle.desk.specs.Asking.{with-job, Judged}
 use Rattle.desk.proofs.Calls.{taken-ledger}
@@ -26,16 +27,19 @@ fits-requires c κs =
 says : (c : tie.After-fits2) → FitsSays (c .fits2 .result) (with-job (c .before .before .before .before .args .self) (c .before .before .before .before .args .job))
 says c =
     let start = c .before .before .before .before in
-    subst (FitsSays (c .fits2 .result))
-    (ap bookOf (c .before .moved .ensures) ∙ taken-book (start .args .self) (start .args .job) (start .pre) _ (c .before .before .taken .ensures))
-    (c .fits2 .ensures)
+    let said = subst (λ l. FitsSays (c .fits2 .result) (bookOf l)) (c .before .moved .ensures) (c .fits2 .ensures) in
+    let same = taken-book (start .args .self) (start .args .job) (start .pre) _ (c .before .before .taken .ensures) in
+    record {
+      yes = λ e. reordered-fits _ _ (reordered-sym _ _ same) (said .yes e);
+      no = λ e f. said .no e (reordered-fits _ _ same f);
+    }
 
 returns : tie.Need-returns
 unfolding Judged
 returns c =
     let k = c .before .before in
     let start = k .before .before .before .before in
-    let new = k .before .moved .ensures ∙ taken-ledger (start .args .self .ledger) (order start) (start .args .job) _ (k .before .before .taken .ensures) in
+    let new = k .before .moved .ensures ∙ taken-ledger (start .args .self .ledger) (order start) (start .args .job) _ (start .pre .free) (k .before .before .taken .ensures) in
     inl (says k .yes (c .before .if1 .taken), λ i. record { desk = (c .with .ensures ∙ ap (with (start .args .self)) new) i; verdict = Yes })
 
 returns-2 : tie.Need-returns-2

@@ -8,7 +8,7 @@ use borrow.Author.Tests.{not-true, not-false, ltb-false}
 use lib.ListN.{length, drop}
 use Rattle.lists.proofs.Places.{length-mapped}
 use Rattle.jobs.specs.Jobs.{numbersAJob, live}
-use Rattle.listing.specs.Order.{listOrder, words}
+use Rattle.listing.specs.Words.{words}
 use Rattle.answers.specs.Answers.{firstOf, isYes}
 use Rattle.answers.proofs.Answers.{is-yes, yes-first, on-yes, on-no}
 use Rattle.ledger.specs.State.{Sized, InOrder}
@@ -37,7 +37,7 @@ returns c =
     let stop = c .before .before .list-stops .ensures in
     let no = ap isYes (sym stop) ∙ sym (c .before .is-yes .ensures) ∙ not-true _ (c .if1 .taken) in (
       λ i. record { verdict = stop i; count = sym (on-no (firstOf (listLines d (length (a .buffer .now)))) (length (live (d .ledger .table))) 0 no) i },
-      sym (on-no (firstOf (listLines d (length (a .buffer .now)))) (words (listOrder (live (d .ledger .table))) ++ drop (numbersAJob * d .ledger .table .count) (a .buffer .now)) (a .buffer .now) no),
+      sym (on-no (firstOf (listLines d (length (a .buffer .now)))) (words (live (d .ledger .table)) ++ drop (numbersAJob * d .ledger .table .count) (a .buffer .now)) (a .buffer .now) no),
     )
 
 list-requires : tie.Need-list-requires
@@ -54,7 +54,7 @@ returns-2 c =
     let stop = k .before .before .list-stops .ensures in (
       λ i. record { verdict = stop i; count = (c .before .before .list .ensures .0 ∙ sym (on-yes (firstOf (listLines d (length (a .buffer .now)))) (length (live (d .ledger .table))) 0 (yes k))) i },
       c .before .before .list .ensures .1
-          ∙ sym (on-yes (firstOf (listLines d (length (a .buffer .now)))) (words (listOrder (live (d .ledger .table))) ++ drop (numbersAJob * d .ledger .table .count) (a .buffer .now)) (a .buffer .now) (yes k)),
+          ∙ sym (on-yes (firstOf (listLines d (length (a .buffer .now)))) (words (live (d .ledger .table)) ++ drop (numbersAJob * d .ledger .table .count) (a .buffer .now)) (a .buffer .now) (yes k)),
     )
 
 pub list-spec : {M : Type 1} → statement M

@@ -9,6 +9,8 @@ use Rattle.lists.proofs.Places.{each-of-every}
 use Rattle.jobs.specs.Jobs.{tableIn, jobIn, live}
 use Rattle.jobs.specs.Figures.{Modest}
 use Rattle.jobs.proofs.Limits.{job-in}
+use Rattle.jobs.proofs.Sorted.{rising-sorted}
+use Prim.Native.Nat.{_<_}
 use borrow.Author.Needs.{needs}
 use Rattle.jobs.proofs.Table.in_order.Statement.{statement}
 use Rattle.jobs.proofs.Table.in_order.Tie as tie
@@ -30,34 +32,47 @@ returns-3 c =
     (passes _ _ _ (sym (c .before .before .before .all-within .ensures) ∙ not-false _ (c .before .before .if2 .left))
     (fails _ _ (sym (c .before .no-number-twice .ensures) ∙ not-true _ (c .if3 .taken))))
 
--- each job that is within its limits owes no more than a job may
-figures-agree-requires : tie.Need-figures-agree-requires
-figures-agree-requires c κs =
-    let start = c .before .before .before .before .before .before in
-    let charge = start .args .charge in
-    let clock = start .args .clock in
-    let js = live (start .args .self) in
-    let all : every (jobIn charge clock) js ≡ true = sym (c .before .before .before .all-within .ensures) ∙ not-false _ (c .before .before .if2 .left) in (
-      c .before .before .before .before .if1 .left,
-      each-of-every (jobIn charge clock) Modest (λ j h. omega (arith, job-in charge clock j h .owed .1, start .pre)) js all,
-    )
-
 returns-4 : tie.Need-returns-4
 unfolding tableIn
 returns-4 c =
     passes _ _ _ (le-leb _ _ (c .before .before .before .before .before .before .if1 .left))
     (passes _ _ _ (sym (c .before .before .before .before .before .all-within .ensures) ∙ not-false _ (c .before .before .before .before .if2 .left))
     (passes _ _ _ (sym (c .before .before .before .no-number-twice .ensures) ∙ not-false _ (c .before .before .if3 .left))
-    (fails _ _ (sym (c .before .figures-agree .ensures) ∙ not-true _ (c .if4 .taken)))))
+    (fails _ _ (sym (c .before .rising .ensures) ∙ not-true _ (c .if4 .taken)))))
+
+-- each job that is within its limits owes no more than a job may and is due after the first instant, and they stand in order
+figures-agree-requires : tie.Need-figures-agree-requires
+figures-agree-requires c κs =
+    let within = c .before .before .before .before .before in
+    let start = within .before .before .before in
+    let charge = start .args .charge in
+    let clock = start .args .clock in
+    let js = live (start .args .self) in
+    let all : every (jobIn charge clock) js ≡ true = sym (within .all-within .ensures) ∙ not-false _ (c .before .before .before .before .if2 .left) in (
+      c .before .before .before .before .before .before .if1 .left,
+      each-of-every (jobIn charge clock) Modest (λ j h. omega (arith, job-in charge clock j h .owed .1, start .pre)) js all,
+      each-of-every (jobIn charge clock) (λ j. 0 < j .deadline .0) (λ j h. omega (arith, job-in charge clock j h .ahead)) js all,
+      rising-sorted js (sym (c .before .rising .ensures) ∙ not-false _ (c .if4 .left)),
+    )
 
 returns-5 : tie.Need-returns-5
 unfolding tableIn
 returns-5 c =
-    passes _ _ _ (le-leb _ _ (c .before .before .before .before .before .before .before .if1 .left))
-    (passes _ _ _ (sym (c .before .before .before .before .before .before .all-within .ensures) ∙ not-false _ (c .before .before .before .before .before .if2 .left))
-    (passes _ _ _ (sym (c .before .before .before .before .no-number-twice .ensures) ∙ not-false _ (c .before .before .before .if3 .left))
-    (passes _ _ _ (sym (c .before .before .figures-agree .ensures) ∙ not-false _ (c .before .if4 .left))
-    (last _ _ (c .rest-unused .ensures)))))
+    passes _ _ _ (le-leb _ _ (c .before .before .before .before .before .before .before .before .if1 .left))
+    (passes _ _ _ (sym (c .before .before .before .before .before .before .before .all-within .ensures) ∙ not-false _ (c .before .before .before .before .before .before .if2 .left))
+    (passes _ _ _ (sym (c .before .before .before .before .before .no-number-twice .ensures) ∙ not-false _ (c .before .before .before .before .if3 .left))
+    (passes _ _ _ (sym (c .before .before .before .rising .ensures) ∙ not-false _ (c .before .before .if4 .left))
+    (fails _ _ (sym (c .before .figures-agree .ensures) ∙ not-true _ (c .if5 .taken))))))
+
+returns-6 : tie.Need-returns-6
+unfolding tableIn
+returns-6 c =
+    passes _ _ _ (le-leb _ _ (c .before .before .before .before .before .before .before .before .before .if1 .left))
+    (passes _ _ _ (sym (c .before .before .before .before .before .before .before .before .all-within .ensures) ∙ not-false _ (c .before .before .before .before .before .before .before .if2 .left))
+    (passes _ _ _ (sym (c .before .before .before .before .before .before .no-number-twice .ensures) ∙ not-false _ (c .before .before .before .before .before .if3 .left))
+    (passes _ _ _ (sym (c .before .before .before .before .rising .ensures) ∙ not-false _ (c .before .before .before .if4 .left))
+    (passes _ _ _ (sym (c .before .before .figures-agree .ensures) ∙ not-false _ (c .before .if5 .left))
+    (last _ _ (c .rest-unused .ensures))))))
 
 pub in-order-spec : {M : Type 1} → statement M
 in-order-spec =
@@ -68,7 +83,9 @@ in-order-spec =
     returns-2
     (λ c κs. search needs)
     returns-3
-    figures-agree-requires
-    returns-4
     (λ c κs. search needs)
-    returns-5)
+    returns-4
+    figures-agree-requires
+    returns-5
+    (λ c κs. search needs)
+    returns-6)
