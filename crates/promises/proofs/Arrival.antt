@@ -2,9 +2,9 @@
 -- after every call, and no answer looks at that.
 use mathlib.Core.Path.{_≡_, refl, sym, ap, subst, _∙_}
 use mathlib.Core.Logic.{_⊎_, inl, inr, _↔_}
-use mathlib.Core.Bool.{not}
+use mathlib.Core.Bool.{not, cond}
 use mathlib.Core.List.{List, [], _∷_, _++_, map}
-use Prim.Native.Nat.{ℕ, pred, _+_, _*_, _≤_}
+use Prim.Native.Nat.{ℕ, suc, pred, _+_, _*_, _≤_}
 use native.Mathlib.Omega.{arith}
 use lib.Dec.{leb, ltb, eqb}
 use lib.ListN.{length, drop, length-map}
@@ -14,6 +14,10 @@ use Rattle.lists.proofs.Same.{same-length, same-map}
 use Rattle.ticks.specs.Ticks.{lastInstant, instant, ticks}
 use Rattle.mesh.specs.Bands.{workOf}
 use Rattle.mesh.specs.Meshes.{trianglesOf, meshLines}
+use Rattle.ticks.specs.declared.Length.{Length}
+use Rattle.feeds.specs.declared.Feed.{Feed}
+use Rattle.feeds.specs.Feeds.{inUse}
+use Rattle.feeds.specs.Pieces.{owesAt}
 use Rattle.jobs.specs.declared.Job.{Job}
 use Rattle.jobs.specs.Jobs.{mostJobs, numbersAJob, lacks, times, live, tableOf}
 use Rattle.jobs.specs.Figures.{owesBy, figured}
@@ -51,7 +55,7 @@ use Rattle.edf.proofs.Reordered.{
 }
 use Rattle.ledger.specs.declared.Ledger.{Ledger}
 use Rattle.ledger.specs.State.{InOrder}
-use Rattle.ledger.specs.Books.{bookJob, jobOf, whoIs}
+use Rattle.ledger.specs.Books.{bookFeeds, bookJob, jobOf, whoIs}
 use Rattle.ledger.proofs.Books.{jobs-of-book-own}
 use Rattle.ledger.proofs.InOrder.{in-order, state-in-order}
 use Rattle.serving.specs.Tick.{lastLine}
@@ -63,9 +67,14 @@ use Rattle.desk.specs.Asking.{requestLines, placeLines, askLines, requested, wi
 use Rattle.desk.proofs.Good.{opening-is-good, step-book, end-book, rest-book, ask-book, ask-refused}
 use Rattle.questions.specs.Meshes.{AskedMesh}
 use Rattle.promises.specs.Runs.{Call, Calls, ask, askMesh, step, end, rest, look, allows, Made, opened, chargeOf}
-use Rattle.promises.specs.Arrival.{jobAsked, follows, inOrderOfArrival, askedLines, Answers, stepped, endedBy, listedBy, listing, AnswersAs, AnswersAsInOrderOfArrival}
+use Rattle.promises.specs.Arrival.{jobAsked, follows, inOrderOfArrival, askedLines, Answers, MeshAnswers, owesIn, stepped, endedBy, restedBy, listedBy, listing, AnswersAs, AnswersAsInOrderOfArrival}
 use Rattle.promises.proofs.System as system
 use Rattle.promises.proofs.Charge.{call-keeps}
+
+-- what a feed's current piece owes, in the state and in its book
+owes-read : (p : ℕ) (charge : Length) (k : ℕ) (fs : List Feed) → owesAt p k fs ≡ owesIn p (bookFeeds charge k fs)
+owes-read p charge k [] = refl
+owes-read p charge k (f ∷ fs) = ap (cond (eqb p k) (f .owes .0)) (owes-read p charge (suc k) fs)
 
 -- a good desk, and a book that is its own but for the order of the jobs
 module _ (c : ℕ) (b : Book) (d : Desk) (g : Good d) (r : Reordered b (book d)) (q : d .ledger .charge .0 ≡ c) where
@@ -134,6 +143,14 @@ module _ (c : ℕ) (b : Book) (d : Desk) (g : Good d) (r : Reordered b (book d))
         not = λ e n. judged-same number work lead a (h .judged (lines-same number work lead ∙ e)) .1 n;
       }
 
+  mesh-same : (s : List ℕ) (size number lead : ℕ) (a : Answer) → AskedMesh d s size number lead a → MeshAnswers c b s size number lead (a .verdict)
+  mesh-same s size number lead a h =
+      let own = goes-on (disorder d) (meshLines s size) _ (ap not (g .order)) refl in
+      record {
+        stopped = λ x e. ap (λ k. k .verdict) (h .stopped x (own ∙ e));
+        asked = λ e. ask-same number (workOf (trianglesOf s)) lead a (h .asked (own ∙ e));
+      }
+
   -- A STEP
   runner-same : runner (book d) ≡ runner b
   runner-same = reordered-runner b (book d) r ordered
@@ -151,6 +168,13 @@ module _ (c : ℕ) (b : Book) (d : Desk) (g : Good d) (r : Reordered b (book d))
   end-same : (n : ℕ) → firstOf (endLines d n) ≡ endedBy b n
   end-same n =
       goes-on (disorder d) (line (lacks n js) NothingThere ∷ []) _ (ap not (g .order)) refl ∙ ap (λ x. firstOf (line x NothingThere ∷ [])) (lacks-same n)
+
+  -- A REST
+  rest-same : (p : ℕ) → firstOf (restLines d p) ≡ restedBy b p
+  rest-same p =
+      let owes = owes-read p (d .ledger .charge) 1 (inUse (d .ledger .feeds)) ∙ ap (owesIn p) (sym (r .feeds)) in
+      goes-on (disorder d) (line (eqb (owesAt p 1 (inUse (d .ledger .feeds))) 0) NothingThere ∷ []) _ (ap not (g .order)) refl
+      ∙ ap (λ n. firstOf (line (eqb n 0) NothingThere ∷ [])) owes
 
   -- A LIST
   list-same : (size : ℕ) → firstOf (listLines d size) ≡ listedBy b size
@@ -173,15 +197,17 @@ module _ (c : ℕ) (b : Book) (d : Desk) (g : Good d) (r : Reordered b (book d))
 
   -- NO ANSWER SEES THE ORDER
   answers-as : AnswersAs c b d
-  unfolding stepOf endOf countedOf listedOf runnerOf owesBy
+  unfolding stepOf endOf restOf countedOf listedOf runnerOf owesBy
   answers-as =
       record {
         jobs = r;
         ask = ask-same;
+        mesh = mesh-same;
         verdict = verdict-same;
         who = λ i. onYes (verdict-same i) (whoIs (ran-same i .who)) Idle;
         owes = λ i. onYes (verdict-same i) (ticks (ran-same i .owes)) (ticks 0);
         end = end-same;
+        rest = rest-same;
         counted = λ size i. record { verdict = list-same size i; count = onYes (list-same size i) ((live-count (d .ledger .table) (order .tidyTable) ∙ count-same) i) 0 };
         listed = λ buffer i. onYes (list-same (length buffer) i) (words (table-same i) ++ drop (numbersAJob * count-same i) buffer) buffer;
         label = λ i. onYes (verdict-same i) (whoIs (runner-same i .who)) Idle;

@@ -2,15 +2,15 @@
 -- of their yes. That one is told by its book alone: what each call makes of it, and what it answers.
 use mathlib.Core.Path.{_≡_}
 use mathlib.Core.Logic.{_↔_}
-use mathlib.Core.Bool.{not}
+use mathlib.Core.Bool.{not, cond}
 use mathlib.Core.List.{List, [], _∷_, _++_, map}
 use Prim.Native.Nat.{ℕ, _+_, _*_}
-use lib.Dec.{ltb}
+use lib.Dec.{ltb, eqb}
 use lib.ListN.{length, drop}
 use Rattle.lists.specs.Lists.{total}
 use Rattle.ticks.specs.Ticks.{lastInstant, instant, ticks}
 use Rattle.mesh.specs.Bands.{workOf}
-use Rattle.mesh.specs.Meshes.{trianglesOf}
+use Rattle.mesh.specs.Meshes.{trianglesOf, meshLines}
 use Rattle.jobs.specs.Jobs.{numbersAJob, lacks, live, tableOf}
 use Rattle.jobs.specs.Figures.{owesBy, figured}
 use Rattle.jobs.specs.Sorted.{sorted}
@@ -22,7 +22,7 @@ use Rattle.answers.specs.declared.Refusal.the-variants.{PastLast, DoesNotFit, N
 use Rattle.answers.specs.declared.Verdict.{Verdict}
 use Rattle.answers.specs.declared.Verdict.the-variants.{Yes, No}
 use Rattle.answers.specs.Answers.{Line, line, firstOf, onYes}
-use Rattle.edf.specs.Book.{Job, Book}
+use Rattle.edf.specs.Book.{Feed, Job, Book}
 use Rattle.edf.specs.Fits.{Fits}
 use Rattle.edf.specs.Step as edf
 use Rattle.edf.specs.Step.{ran, runner}
@@ -34,8 +34,9 @@ use Rattle.ledger.specs.Books.{jobOf, whoIs}
 use Rattle.desk.specs.declared.Desk.{Desk}
 use Rattle.desk.specs.declared.Answer.{Answer}
 use Rattle.desk.specs.State.{book}
-use Rattle.desk.specs.Calls.{stepOf, endOf, countedOf, listedOf, runnerOf}
+use Rattle.desk.specs.Calls.{stepOf, endOf, restOf, countedOf, listedOf, runnerOf}
 use Rattle.desk.specs.Asking.{requestLines, placeLines, requested, with-job, Asked}
+use Rattle.questions.specs.Meshes.{AskedMesh}
 use Rattle.promises.specs.Runs.{Call, Calls, ask, askMesh, step, end, rest, look, Made, Opening, opened, chargeOf}
 
 -- the job that is asked for under a charge: it owes its work and the charge, and is due the lead after the clock
@@ -68,12 +69,25 @@ pub record Answers (charge : ℕ) (b : Book) (number work lead : ℕ) (v : Verdi
   pub fits : firstOf (askedLines b number work lead) ≡ Yes → Fits (taking (jobAsked charge b number work lead) b) → v ≡ Yes
   pub not : firstOf (askedLines b number work lead) ≡ Yes → (Fits (taking (jobAsked charge b number work lead) b) → ⊥) → v ≡ No DoesNotFit
 
--- line 3 of a step, line 7 of an end, line 11 of a list into so many places
+-- an ask with a mesh: the first of its own lines that holds, then what an ask for its band's work answers
+pub record MeshAnswers (charge : ℕ) (b : Book) (s : List ℕ) (size number lead : ℕ) (v : Verdict) : Type 0 where
+  pub stopped : (x : Refusal) → firstOf (meshLines s size) ≡ No x → v ≡ No x
+  pub asked : firstOf (meshLines s size) ≡ Yes → Answers charge b number (workOf (trianglesOf s)) lead v
+
+-- what the current piece of the feed at a position owes; nothing where there is none
+abbrev pub owesIn : ℕ → List Feed → ℕ
+owesIn p [] = 0
+owesIn p (f ∷ fs) = cond (eqb p (f .position)) (f .owes) (owesIn p fs)
+
+-- line 3 of a step, line 7 of an end and of a rest, line 11 of a list into so many places
 abbrev pub stepped : Book → Verdict
 stepped b = firstOf (line (not (ltb (b .clock) lastInstant)) PastLast ∷ [])
 
 abbrev pub endedBy : Book → ℕ → Verdict
 endedBy b n = firstOf (line (lacks n (map jobOf (b .jobs))) NothingThere ∷ [])
+
+abbrev pub restedBy : Book → ℕ → Verdict
+restedBy b p = firstOf (line (eqb (owesIn p (b .feeds)) 0) NothingThere ∷ [])
 
 abbrev pub listedBy : Book → ℕ → Verdict
 listedBy b size = firstOf (line (ltb size (numbersAJob * length (b .jobs))) ShortBuffer ∷ [])
@@ -82,15 +96,17 @@ listedBy b size = firstOf (line (ltb size (numbersAJob * length (b .jobs))) Shor
 abbrev pub listing : Book → List ℕ
 listing b = words (figured (sorted (map jobOf (b .jobs))))
 
--- the desk answers as this book does, and its book is the same but for the order of the jobs. A rest looks at the feeds alone
+-- the desk answers as this book does, and its book is the same but for the order of the jobs
 pub record AnswersAs (charge : ℕ) (b : Book) (d : Desk) : Type 0 where
   pub jobs : Reordered b (book d)
   pub ask : (number work lead : ℕ) (r : Answer) → Asked d number work lead r → Answers charge b number work lead (r .verdict)
+  pub mesh : (s : List ℕ) (size number lead : ℕ) (r : Answer) → AskedMesh d s size number lead r → MeshAnswers charge b s size number lead (r .verdict)
   -- a step
   pub verdict : stepOf d .verdict ≡ stepped b
   pub who : stepOf d .who ≡ onYes (stepped b) (whoIs (ran b .who)) Idle
   pub owes : stepOf d .owes ≡ onYes (stepped b) (ticks (ran b .owes)) (ticks 0)
   pub end : (n : ℕ) → endOf d n .verdict ≡ endedBy b n
+  pub rest : (p : ℕ) → restOf d p .verdict ≡ restedBy b p
   -- a list
   pub counted : (size : ℕ) → countedOf d size ≡ record { verdict = listedBy b size; count = onYes (listedBy b size) (length (b .jobs)) 0 }
   pub listed : (buffer : List ℕ)
