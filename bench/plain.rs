@@ -91,26 +91,6 @@ fn feeds_in_order(desk: &Desk) -> bool {
         && feeds.iter().all(piece)
 }
 
-/// By deadlines, so that one sum runs through them all: each shows it as it is after the last of those due together. Each
-/// owes no more than it may.
-fn figures_agree(jobs: &[Job]) -> bool {
-    let mut places = [Job::default(); MOST_JOBS];
-    let order = &mut places[..jobs.len()];
-    order.copy_from_slice(jobs);
-    order.sort_unstable_by_key(|job| job.deadline);
-    let (mut sum, mut from) = (0, 0);
-    for at in 0..order.len() {
-        sum += order[at].owed;
-        if at + 1 == order.len() || order[at].deadline < order[at + 1].deadline {
-            if order[from..=at].iter().any(|job| job.figure != sum) {
-                return false;
-            }
-            from = at + 1;
-        }
-    }
-    true
-}
-
 fn jobs_in_order(desk: &Desk) -> bool {
     if desk.table.count > MOST_JOBS {
         return false;
@@ -126,17 +106,37 @@ fn jobs_in_order(desk: &Desk) -> bool {
     let empty = |job: &Job| *job == Job::default();
     jobs.iter().all(within)
         && jobs.iter().enumerate().all(|(i, job)| jobs[i + 1..].iter().all(|other| other.number != job.number))
+        && jobs.windows(2).all(|pair| rank(&pair[0]) < rank(&pair[1]))
         && figures_agree(jobs)
         && desk.table.jobs[desk.table.count..].iter().all(empty)
+}
+
+/// The order of the table.
+fn rank(job: &Job) -> (u64, u32) {
+    (job.deadline, job.number)
+}
+
+/// Of jobs in the order of the table: the last of those due together shows all that has been added up, and they the same.
+fn figures_agree(jobs: &[Job]) -> bool {
+    let mut sum = 0;
+    jobs.iter().enumerate().all(|(i, job)| {
+        sum += job.owed;
+        match jobs.get(i + 1) {
+            Some(next) if next.deadline == job.deadline => next.figure == job.figure,
+            _ => job.figure == sum,
+        }
+    })
 }
 
 fn in_order(desk: &Desk) -> bool {
     desk.clock <= LAST_INSTANT && desk.charge <= HIGHEST_CHARGE && feeds_in_order(desk) && jobs_in_order(desk)
 }
 
-/// What the live jobs due by an instant owe together.
+/// What the live jobs due by an instant owe together: what the last of them shows.
 fn jobs_owe(desk: &Desk, by: u64) -> u64 {
-    jobs_of(desk).iter().filter(|job| job.deadline <= by).map(|job| job.owed).sum()
+    let jobs = jobs_of(desk);
+    let due = jobs.partition_point(|job| job.deadline <= by);
+    if due == 0 { 0 } else { jobs[due - 1].figure }
 }
 
 fn owed_by(desk: &Desk, by: u64) -> u64 {
@@ -152,8 +152,9 @@ fn owed_by(desk: &Desk, by: u64) -> u64 {
     jobs_owe(desk, by) + feeds
 }
 
-fn fits(desk: &Desk) -> bool {
-    let jobs = jobs_of(desk).iter().map(|job| job.deadline).max().unwrap_or(0);
+/// Whether one job more fits.
+fn fits(desk: &Desk, new: &Job) -> bool {
+    let jobs = jobs_of(desk).last().map_or(0, |job| job.deadline).max(new.deadline);
     let feeds = feeds_of(desk).iter().map(|feed| next_release(feed, desk.clock)).max().unwrap_or(0);
     let round = match round_of(feeds_of(desk)) {
         Some(round) => round,
@@ -162,7 +163,7 @@ fn fits(desk: &Desk) -> bool {
     let horizon = desk.clock.max(jobs).max(feeds) + round;
     let mut end = horizon;
     while desk.clock + 1 < end {
-        let owed = owed_by(desk, end - 1);
+        let owed = owed_by(desk, end - 1) + if new.deadline < end { new.owed } else { 0 };
         if end - 1 - desk.clock < owed {
             return false;
         }
@@ -191,31 +192,33 @@ pub fn ask(desk: &mut Desk, number: u32, work: u32, lead: u32) -> u32 {
     if desk.table.count == MOST_JOBS {
         return 5;
     }
-    let at = desk.table.count;
     let (owed, deadline) = (work + desk.charge, desk.clock + lead);
-    desk.table.jobs[at] = Job { number, owed, deadline, figure: jobs_owe(desk, deadline) + owed };
-    desk.table.count += 1;
-    if fits(desk) {
-        for job in &mut desk.table.jobs[..at] {
-            if job.deadline >= deadline {
-                job.figure += owed;
-            }
-        }
-        return 0;
+    let new = Job { number, owed, deadline, figure: jobs_owe(desk, deadline) + owed };
+    if !fits(desk, &new) {
+        return 6;
     }
-    desk.table.count -= 1;
-    desk.table.jobs[at] = Job::default();
-    6
+    for job in due_from(desk, deadline) {
+        job.figure += owed;
+    }
+    let at = jobs_of(desk).partition_point(|job| rank(job) < rank(&new));
+    desk.table.jobs.copy_within(at..desk.table.count, at + 1);
+    desk.table.jobs[at] = new;
+    desk.table.count += 1;
+    0
+}
+
+/// The live jobs due no earlier.
+fn due_from(desk: &mut Desk, deadline: u64) -> &mut [Job] {
+    let count = desk.table.count;
+    let first = jobs_of(desk).partition_point(|job| job.deadline < deadline);
+    &mut desk.table.jobs[first..count]
 }
 
 /// So many ticks of the job there are owed no more; those due no earlier show so many fewer, and it leaves with its last.
 fn less(desk: &mut Desk, at: usize, ticks: u64) {
     let count = desk.table.count;
-    let deadline = desk.table.jobs[at].deadline;
-    for job in &mut desk.table.jobs[..count] {
-        if job.deadline >= deadline {
-            job.figure -= ticks;
-        }
+    for job in due_from(desk, desk.table.jobs[at].deadline) {
+        job.figure -= ticks;
     }
     desk.table.jobs[at].owed -= ticks;
     if desk.table.jobs[at].owed == 0 {
@@ -250,7 +253,7 @@ pub fn step(desk: &mut Desk) -> (u32, u32, u32) {
 
 /// A tick of a state in order, not at the clock's end. Kind 0 is idle, 1 a job by number, 2 a feed by position.
 pub fn tick(desk: &mut Desk) -> (u32, u32, u32) {
-    let job = jobs_of(desk).iter().enumerate().map(|(i, job)| (job.deadline, job.number, i)).min();
+    let job = jobs_of(desk).first().map(|job| (job.deadline, job.number));
     let clock = desk.clock;
     let feed = feeds_of(desk)
         .iter()
@@ -259,8 +262,8 @@ pub fn tick(desk: &mut Desk) -> (u32, u32, u32) {
         .map(|(i, feed)| (due(feed, clock), i))
         .min();
     let named = match (job, feed) {
-        (Some((due, number, at)), other) if other.map_or(true, |(d, _)| due <= d) => {
-            less(desk, at, 1);
+        (Some((due, number)), other) if other.map_or(true, |(d, _)| due <= d) => {
+            less(desk, 0, 1);
             (0, 1, number)
         }
         (_, Some((_, at))) => {

@@ -18,8 +18,8 @@
 extern "C" {
 #endif
 
-/* One more with every change of a struct, a call or a number below. */
-#define DESK_VERSION 4
+/* One more with every change of a struct, a call or a number below, or of what makes a state one in order. */
+#define DESK_VERSION 5
 
 /* An instant is a reading of the clock, a whole number of ticks; this is the last one, 2 to the 40th. */
 #define DESK_LAST_INSTANT UINT64_C(1099511627776)
@@ -101,7 +101,8 @@ typedef struct DeskJob {
     uint64_t figure;
 } DeskJob;
 
-/* The live jobs stand at the front, in the order of their yes; the places after them are all zero. */
+/* The live jobs stand at the front, earliest deadline first and lower number first on equal ones; the places after them are
+ * all zero. So the first is the one that goes before all others, and a list call writes them as they stand. */
 typedef struct DeskTable {
     size_t count;
     DeskJob jobs[DESK_MOST_JOBS];

@@ -4,9 +4,10 @@
 use crate::boundary::{Answer, Desk, Feed, Job, Label, Library, Listed, Reason, Stepped};
 use crate::invent::{self, Mesh, Opening};
 use crate::model::{self, CHARGE_MOST, JOB_LENGTH_MOST, LAST_INSTANT};
-use crate::own::{read, write, Own};
+use crate::own::{rank, read, write, Own};
 use crate::random::Random;
 use crate::workers;
+use std::cmp::Reverse;
 use std::collections::BTreeMap;
 use std::io;
 
@@ -233,13 +234,16 @@ impl Walk<'_> {
             if self.random.chance(15) {
                 self.on_a_copy_with_other_figures(desk)?;
             }
+            if self.random.chance(15) {
+                self.on_a_copy_in_another_order(desk)?;
+            }
             if self.random.chance(25) {
                 self.meshes_on_an_empty_desk(desk.clock)?;
             }
             if self.random.chance(10) {
                 self.reasons_on_a_moved_copy(desk)?;
             }
-            if self.random.chance(3) {
+            if self.random.chance(6) {
                 self.reasons_far_ahead(desk.clock)?;
             }
         }
@@ -464,6 +468,19 @@ impl Walk<'_> {
         let mut other = desk;
         overbook(&mut self.random, &mut other);
         another_figure(&mut self.random, &mut other);
+        for _ in 0..self.random.between(1, 4) {
+            let call = self.some_call(&other);
+            self.call(other, call)?;
+        }
+        Ok(())
+    }
+
+    /// With more jobs than there is time for, many of them due together, and mostly not in
+    /// the order of the table, their figures right all the same: then every call says so.
+    fn on_a_copy_in_another_order(&mut self, desk: Desk) -> Result<(), String> {
+        let mut other = desk;
+        overbook(&mut self.random, &mut other);
+        another_order(&mut self.random, &mut other);
         for _ in 0..self.random.between(1, 4) {
             let call = self.some_call(&other);
             self.call(other, call)?;
@@ -709,10 +726,10 @@ fn move_on(random: &mut Random, desk: &mut Desk) {
 
 /// One thing wrong; sometimes one field set to a value just inside its limits.
 fn damage(random: &mut Random, desk: &mut Desk) {
-    match random.below(24) {
+    match random.below(26) {
         0 => desk.feeds.count = random.pick(&[17, 18, 256, usize::MAX, desk.feeds.count + 1]),
         1 => desk.table.count = random.pick(&[65, 66, 256, usize::MAX, desk.table.count + 1]),
-        2 => number_twice(desk),
+        2 => number_twice(random, desk),
         3 => piece_before_its_offset(random, desk),
         4 => clock_at_or_past_the_end(random, desk),
         5 => feeds_that_would_not_pass(random, desk),
@@ -733,6 +750,7 @@ fn damage(random: &mut Random, desk: &mut Desk) {
         14..=15 => at_a_deadline(random, desk),
         16..=17 => another_figure(random, desk),
         18..=19 => owing_past_all_numbers(random, desk),
+        20..=21 => another_order(random, desk),
         _ => one_field(random, desk),
     }
 }
@@ -747,14 +765,19 @@ pub fn add_up(desk: &mut Desk) {
     }
 }
 
+/// Puts every live job in its place, and makes the figures agree.
+pub fn settle(desk: &mut Desk) {
+    let count = desk.table.count.min(64);
+    desk.table.jobs[..count].sort_by_key(rank);
+    add_up(desk);
+}
+
 /// What a job's figure adds up: the document's rule, and others.
 #[derive(Clone, Copy, Debug, PartialEq, Eq)]
 pub enum Rule {
     DueNoLater,
     /// Those before it in the table, and itself.
     UpToItsPlace,
-    /// Those before it in the list, and itself.
-    UpToItsLine,
     /// Those due earlier, and itself.
     DueEarlier,
     DueNoEarlier,
@@ -764,11 +787,9 @@ pub enum Rule {
 }
 
 /// The likelier ones twice.
-const OTHER_RULES: [Rule; 10] = [
+const OTHER_RULES: [Rule; 8] = [
     Rule::UpToItsPlace,
     Rule::UpToItsPlace,
-    Rule::UpToItsLine,
-    Rule::UpToItsLine,
     Rule::DueEarlier,
     Rule::DueEarlier,
     Rule::DueNoEarlier,
@@ -784,7 +805,6 @@ pub fn figures_by(rule: Rule, jobs: &[Job]) -> Vec<u64> {
         match rule {
             Rule::DueNoLater => by.deadline <= job.deadline,
             Rule::UpToItsPlace => other <= place,
-            Rule::UpToItsLine => (by.deadline, by.number) <= (job.deadline, job.number),
             Rule::DueEarlier => by.deadline < job.deadline || itself,
             Rule::DueNoEarlier => by.deadline >= job.deadline,
             Rule::WithoutItself => by.deadline <= job.deadline && !itself,
@@ -850,7 +870,61 @@ fn owing_past_all_numbers(random: &mut Random, desk: &mut Desk) {
         jobs[other].deadline = jobs[place].deadline;
         jobs[other].owed = 0u64.wrapping_sub(jobs[place].owed) + some;
     }
+    settle(desk);
+}
+
+/// The jobs mostly not in the order of the table, some of them with other deadlines or
+/// numbers; the figures agree, so that nothing else is wrong.
+fn another_order(random: &mut Random, desk: &mut Desk) {
+    let count = desk.table.count.min(64);
+    if count < 2 {
+        return;
+    }
+    let jobs = &mut desk.table.jobs[..count];
+    let (any, last) = (random.index(count - 1), count - 1);
+    let place = random.pick(&[any, any, 0, last - 1]);
+    match random.below(23) {
+        // Two neighbours exchanged, due together or not.
+        0..=2 => jobs.swap(place, place + 1),
+        3..=6 => {
+            due_together(jobs, place);
+            jobs.swap(place, place + 1);
+        }
+        // One put elsewhere: the last first, the first last, or any.
+        7 => jobs.rotate_right(1),
+        8 => jobs.rotate_left(1),
+        9 => jobs[place..].rotate_left(1),
+        10 => jobs[..place + 2].rotate_right(1),
+        // Two alike in deadline and number.
+        11..=12 => {
+            due_together(jobs, place);
+            jobs[place + 1].number = jobs[place].number;
+            jobs.sort_by_key(rank);
+        }
+        // A number twice, each job in its place all the same unless they are due together.
+        13..=14 => {
+            due_together(jobs, place);
+            jobs[place].number = jobs[random.index(count)].number;
+            jobs.sort_by_key(rank);
+        }
+        // All of them: as they may have come, the other way round, or by another rule.
+        15..=16 => invent::shuffle(random, jobs),
+        17 => jobs.reverse(),
+        18 => jobs.sort_by_key(|job| (job.deadline, Reverse(job.number))),
+        19 => jobs.sort_by_key(|job| job.number),
+        20 => jobs.sort_by_key(|job| (job.owed, job.deadline, job.number)),
+        // In order after all.
+        _ => due_together(jobs, place),
+    }
     add_up(desk);
+}
+
+/// The job behind this place becomes due with the one there. What falls due at each
+/// place stays as it was but for that one, so that the two that stand there are due
+/// together.
+fn due_together(jobs: &mut [Job], place: usize) {
+    jobs[place + 1].deadline = jobs[place].deadline;
+    jobs.sort_by_key(rank);
 }
 
 /// A deadline length outside its limits, or about as short as line 10 allows; now and
@@ -918,28 +992,33 @@ fn owing_all_or_more(random: &mut Random, desk: &mut Desk) {
     let (feeds, jobs) = (desk.feeds.count.min(16), desk.table.count.min(64));
     if jobs > 0 && random.chance(50) {
         desk.table.jobs[random.index(jobs)].owed = JOB_LENGTH_MOST + more;
-        add_up_mostly(random, desk);
+        settle_mostly(random, desk);
     } else if feeds > 0 {
         let feed = &mut desk.feeds.feeds[random.index(feeds)];
         feed.owes = feed.work + more;
     }
 }
 
-/// After a change of what jobs owe or by when: else their figures would be wrong too,
-/// and hide what is.
-fn add_up_mostly(random: &mut Random, desk: &mut Desk) {
+/// After a change of what a job owes, by when or under which number: else its place or
+/// the figures would be wrong too, and hide what is.
+fn settle_mostly(random: &mut Random, desk: &mut Desk) {
     if random.chance(80) {
-        add_up(desk);
+        settle(desk);
     }
 }
 
-fn number_twice(desk: &mut Desk) {
+/// Often a later job's, so that each stands in its place all the same.
+fn number_twice(random: &mut Random, desk: &mut Desk) {
     let count = desk.table.count;
     if (2..=64).contains(&count) {
         desk.table.jobs[count - 1].number = desk.table.jobs[0].number;
+        settle_mostly(random, desk);
     } else if count == 1 && desk.table.jobs[0].deadline > desk.clock {
         desk.table.jobs[1] = desk.table.jobs[0];
         desk.table.count = 2;
+        if desk.table.jobs[0].deadline - desk.clock > 1 && random.chance(50) {
+            desk.table.jobs[0].deadline -= 1;
+        }
         add_up(desk);
     }
 }
@@ -1034,7 +1113,7 @@ fn one_field(random: &mut Random, desk: &mut Desk) {
             let field = random.below(4);
             set_job(&mut desk.table.jobs[random.index(among)], field, value);
             if field < 3 {
-                add_up_mostly(random, desk);
+                settle_mostly(random, desk);
             }
         }
     }

@@ -81,7 +81,7 @@ fn periods(random: &mut Random) -> Vec<u64> {
     }
 }
 
-fn shuffle<T>(random: &mut Random, items: &mut [T]) {
+pub fn shuffle<T>(random: &mut Random, items: &mut [T]) {
     for place in (1..items.len()).rev() {
         items.swap(place, random.index(place + 1));
     }
@@ -517,12 +517,19 @@ pub fn mesh_lead(random: &mut Random, desk: &Desk, number: u32, mesh: &Mesh) -> 
         Ok(work) if random.chance(70) => least_that_fits(desk, number, work),
         _ => None,
     };
-    match (least, random.below(5)) {
-        (Some(least), 0) => least - 1,
-        (Some(least), 1 | 2) => least,
-        (Some(least), 3) => least + random.between(1, 60),
-        (Some(least), _) => random.between(least, JOB_LENGTH_MOST),
-        (None, _) => lead(random, desk),
+    let least = match least {
+        Some(least) => least,
+        None => return lead(random, desk),
+    };
+    // Due together with a job, where it fits so.
+    let leads = desk.jobs.iter().map(|job| job.deadline - desk.clock);
+    let together: Vec<u64> = leads.filter(|lead| *lead >= least).collect();
+    match random.below(7) {
+        0 => least - 1,
+        1 | 2 => least,
+        3 => least + random.between(1, 60),
+        4 | 5 if !together.is_empty() => random.pick(&together),
+        _ => random.between(least, JOB_LENGTH_MOST),
     }
 }
 
@@ -691,10 +698,12 @@ fn crowd(random: &mut Random) -> Vec<u8> {
     let mut script = Script::open(&roomy(random), 1_000).expect("these feeds pass");
     let deadlines = random.between(1, 5);
     let most = random.pick(&[1, 3, 20]);
+    // One by one each number is lower than those there, or higher, or among them.
+    let turn = random.pick(&[100, 1, 37]);
     for job in 0..random.between(60, 70) {
         let lead = 64_000 + 300 * random.below(deadlines);
         let number = if random.chance(90) {
-            1_000 - job as u32
+            900 + (job * turn % 101) as u32
         } else {
             number(random, &script.desk)
         };
@@ -1093,6 +1102,7 @@ pub fn fixed() -> Vec<Vec<u8>> {
     }
     scripts.extend(charged());
     scripts.extend(due_early());
+    scripts.extend(asked_in_any_order());
     for count in 15..=18 {
         let feeds = |feed: &str| feed.repeat(count);
         scripts.push(feeds("feed 20 1 0 20\n") + "go 0 0\nrun 40\n");
@@ -1127,6 +1137,27 @@ fn charged() -> Vec<String> {
         scripts.push(format!(
             "go 0 {charge}\nask 1 65536 65536\nask 2 {just} 65536\nrun 3\n"
         ));
+    }
+    scripts
+}
+
+/// Four jobs, two of them due together, asked for in each order there is, and each of
+/// them ended or none, before the first tick or after it; then one more that is due with
+/// the two.
+fn asked_in_any_order() -> Vec<String> {
+    let asks = ["ask 5 2 9\n", "ask 2 1 9\n", "ask 9 2 4\n", "ask 1 1 20\n"];
+    let mut scripts = Vec::new();
+    for turn in 0..24 {
+        let mut left = asks.to_vec();
+        let order = [turn / 6, turn / 2 % 3, turn % 2, 0].map(|place| left.remove(place));
+        for (before, after) in [("", "run 1\n"), ("run 1\n", "")] {
+            for end in ["", "end 1\n", "end 2\n", "end 5\n", "end 9\n"] {
+                let asks = order.concat();
+                scripts.push(format!(
+                    "feed 6 1 3 6\ngo 0 0\n{asks}{before}{end}{after}ask 3 1 8\nrun 20\n"
+                ));
+            }
+        }
     }
     scripts
 }

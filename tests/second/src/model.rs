@@ -62,7 +62,8 @@ pub struct Job {
     pub figure: Length,
 }
 
-/// The desk's state. Jobs stand in the order of their yes.
+/// The desk's state. Jobs stand in the order in which they came, and nothing looks for
+/// one by its place: the order of the table is the boundary's (see `own`).
 #[derive(Clone, Debug, PartialEq, Eq, Default)]
 pub struct Desk {
     pub clock: Instant,
@@ -292,8 +293,8 @@ pub fn open(list: &[u32], start: Instant, charge: u32) -> Result<Desk, Refusal> 
 }
 
 impl Desk {
-    /// "A state in order", but for unused places: this model has none, so the
-    /// caller that reads a state out of fixed tables looks at those.
+    /// "A state in order", but for unused places and the order of the table: this model
+    /// has neither, so the caller that reads a state out of fixed tables looks at those.
     pub fn in_order(&self) -> bool {
         self.clock <= LAST_INSTANT
             && self.charge <= CHARGE_MOST

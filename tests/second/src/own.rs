@@ -3,8 +3,8 @@
 use crate::boundary::{Answer, Desk, Feed, Job, Label, Library, Listed, Reason, Stepped};
 use crate::model::{self, Place, Refusal, Runner, NOT_IN_ORDER};
 
-/// The state that these fixed tables hold; nothing if a count is above its
-/// limit or an unused place isn't all zero, which is not in order.
+/// The state that these fixed tables hold; nothing if a count is above its limit, a
+/// live job isn't in its place or an unused place isn't all zero, which is not in order.
 pub fn read(desk: &Desk) -> Option<model::Desk> {
     let (all_feeds, all_jobs) = (&desk.feeds.feeds, &desk.table.jobs);
     let (feeds, free_feeds) = (
@@ -17,12 +17,32 @@ pub fn read(desk: &Desk) -> Option<model::Desk> {
     );
     let unused = free_feeds.iter().all(|feed| *feed == Feed::default())
         && free_jobs.iter().all(|job| *job == Job::default());
-    unused.then(|| model::Desk {
+    let holds = unused && each_in_its_place(jobs);
+    holds.then(|| model::Desk {
         clock: desk.clock,
         charge: desk.charge,
         feeds: feeds.iter().map(model_feed).collect(),
-        jobs: jobs.iter().map(model_job).collect(),
+        jobs: as_they_may_have_come(jobs),
     })
+}
+
+/// What the table goes by: the earlier deadline first, then the lower number.
+pub fn rank(job: &Job) -> (u64, u32) {
+    (job.deadline, job.number)
+}
+
+/// Before each job stand just those that go before it, so that no two go alike.
+fn each_in_its_place(jobs: &[Job]) -> bool {
+    let before = |job: &Job| jobs.iter().filter(|other| rank(other) < rank(job)).count();
+    (0..).zip(jobs).all(|(place, job)| before(job) == place)
+}
+
+/// The table does not tell in which order its jobs came, and no answer may turn on it:
+/// so the model gets them in one that neither deadlines nor numbers give.
+fn as_they_may_have_come(jobs: &[Job]) -> Vec<model::Job> {
+    let mut jobs: Vec<model::Job> = jobs.iter().map(model_job).collect();
+    jobs.sort_by_key(|job| job.number.wrapping_mul(0x9e37_79b1));
+    jobs
 }
 
 fn model_feed(feed: &Feed) -> model::Feed {
@@ -57,7 +77,7 @@ fn model_job(job: &Job) -> model::Job {
     }
 }
 
-/// The fixed tables that hold this state.
+/// The fixed tables that hold this state, the jobs in the order of the table.
 pub fn write(state: &model::Desk) -> Desk {
     let mut desk = Desk {
         clock: state.clock,
@@ -96,6 +116,7 @@ pub fn write(state: &model::Desk) -> Desk {
             figure,
         };
     }
+    desk.table.jobs[..state.jobs.len()].sort_by_key(rank);
     desk
 }
 

@@ -3,12 +3,14 @@
 //! adding up, the rehearsal ahead against two slower ways of knowing, and the
 //! comparing of calls against libraries with one fault planted. What the charge
 //! changes is in `charge`, what deadlines before the next release change in
-//! `deadlines` and what the figure changes in `figure`, but random states here are
-//! under any charge, and with any deadlines.
+//! `deadlines`, what the figure changes in `figure` and what the order of the table
+//! changes in `order`, but random states here are under any charge, and with any
+//! deadlines.
 
 mod charge;
 mod deadlines;
 mod figure;
+mod order;
 
 use crate::ahead;
 use crate::boundary::{self, Answer, Label, Library, Listed, Stepped};
@@ -786,7 +788,7 @@ fn a_late_job_stays_and_a_late_piece_gives_way() {
 }
 
 #[test]
-fn numbers_and_places_are_used_again_in_the_order_of_yes() {
+fn numbers_are_used_again_and_jobs_stand_as_they_came() {
     let mut desk = open(&[], 0, 0).unwrap();
     for number in [5, 4, 3] {
         desk = desk.ask(number, 2, 20).unwrap();
@@ -1250,6 +1252,14 @@ struct Faulty(u32);
 
 type State = crate::boundary::Desk;
 
+fn in_order(desk: &State) -> bool {
+    read(desk).map_or(false, |state| state.in_order())
+}
+
+fn live(desk: &State) -> &[boundary::Job] {
+    &desk.table.jobs[..desk.table.count.min(64)]
+}
+
 /// Whether the figures of all live jobs agree with what is owed, be that in order or not.
 fn agrees(desk: &State) -> bool {
     let mut again = *desk;
@@ -1566,7 +1576,7 @@ fn each_planted_fault_is_found() {
 #[test]
 fn each_planted_fault_of_a_reason_is_found() {
     for fault in (50..=67).chain(70..=92).chain(100..=108) {
-        match calls::compare(&Faulty(fault), 5, 0, 20_000) {
+        match calls::compare(&Faulty(fault), 5, 0, 30_000) {
             Ok(_) => panic!("fault {fault} went by"),
             Err(difference) => assert!(difference.contains("Why {"), "fault {fault}"),
         }
@@ -1576,7 +1586,7 @@ fn each_planted_fault_of_a_reason_is_found() {
 /// Notes what came: the lengths of fronts, the counts in them, by how much a
 /// file's length was off, the works taken, and how often a state was overbooked;
 /// which kinds of reason, by number; which charges and states under them; which kinds
-/// of deadline; and which kinds of figure.
+/// of deadline; which kinds of figure; and which places in the table.
 #[derive(Default)]
 struct Watching {
     lent: RefCell<BTreeSet<usize>>,
@@ -1588,6 +1598,7 @@ struct Watching {
     charges: charge::Seen,
     deadlines: deadlines::Seen,
     figures: figure::Seen,
+    orders: order::Seen,
 }
 
 impl Watching {
@@ -1595,6 +1606,7 @@ impl Watching {
         self.charges.note(desk);
         self.deadlines.note(desk);
         self.figures.note(desk);
+        self.orders.note(desk);
     }
 
     fn note_reason(&self, state: &Desk, lead: u64, why: &boundary::Reason) {
@@ -1693,6 +1705,7 @@ impl Library for Watching {
     fn ask(&self, desk: State, number: u32, work: u32, lead: u32) -> Answer {
         let answer = Own.ask(desk, number, work, lead);
         self.figures.note_ask(&desk, &answer);
+        self.orders.note_ask(&desk, &answer);
         answer
     }
     fn ask_mesh(&self, desk: State, head: &[u8], size: u64, number: u32, lead: u32) -> Answer {
@@ -1707,9 +1720,10 @@ impl Library for Watching {
         }
         match answer.refusal {
             0 => {
-                let last = answer.desk.table.count - 1;
-                let owed = answer.desk.table.jobs[last].owed;
+                let at = order::taken(&desk, &answer.desk).expect("it was taken");
+                let owed = answer.desk.table.jobs[at].owed;
                 self.taken.borrow_mut().insert(owed - desk.charge);
+                self.orders.note_mesh(&desk, &answer);
             }
             6 if !ahead::never_late(&read(&desk).unwrap()) => {
                 self.overbooked.set(self.overbooked.get() + 1);
@@ -1730,22 +1744,28 @@ impl Library for Watching {
         let stepped = Own.step(desk);
         self.deadlines.note_step(&desk, &stepped);
         self.figures.note_step(&desk, &stepped);
+        self.orders.note_step(&desk, &stepped);
         stepped
     }
     fn end(&self, desk: State, number: u32) -> Answer {
         self.note_state(&desk);
         let answer = Own.end(desk, number);
         self.figures.note_end(&desk, number, &answer);
+        self.orders.note_end(&desk, number, &answer);
         answer
     }
     fn rest(&self, desk: State, position: u32) -> Answer {
         self.note_state(&desk);
-        Own.rest(desk, position)
+        let answer = Own.rest(desk, position);
+        self.orders.note_rest(&desk, &answer);
+        answer
     }
     fn list(&self, desk: State, buffer: &mut [u64]) -> Listed {
         self.note_state(&desk);
         self.figures.note_list(&desk, buffer.len());
-        Own.list(desk, buffer)
+        let listed = Own.list(desk, buffer);
+        self.orders.note_list(&desk, &listed);
+        listed
     }
     fn label(&self, desk: State, jobs: &[u8], feeds: &[u8]) -> Label {
         self.note_state(&desk);
@@ -1782,4 +1802,5 @@ fn a_right_library_passes() {
     watching.charges.saw_every_kind_of_state();
     watching.deadlines.saw_every_kind();
     watching.figures.saw_every_kind();
+    watching.orders.saw_every_kind();
 }

@@ -276,10 +276,6 @@ fn the_charge_of_a_state_in_order() {
 
 // ---------------------------------------------------------------- comparing calls
 
-fn in_order(desk: &State) -> bool {
-    read(desk).map_or(false, |state| state.in_order())
-}
-
 /// The state under this charge, what is owed cut down to its bounds, and with it the
 /// figures where they agreed.
 fn cut(desk: &State, charge: u64) -> State {
@@ -376,7 +372,7 @@ impl Library for Mischarging {
     fn ask_mesh(&self, desk: State, head: &[u8], size: u64, number: u32, lead: u32) -> Answer {
         let mut answer = Own.ask_mesh(desk, head, size, number, lead);
         if self.0 == 30 && answer.refusal == 0 {
-            newest(&mut answer).owed -= desk.charge;
+            newest(&desk, &mut answer).owed -= desk.charge;
         }
         answer
     }
@@ -434,9 +430,9 @@ impl Library for Mischarging {
 }
 
 /// The job that was just taken.
-fn newest(answer: &mut Answer) -> &mut boundary::Job {
-    let last = answer.desk.table.count - 1;
-    &mut answer.desk.table.jobs[last]
+fn newest<'a>(desk: &State, answer: &'a mut Answer) -> &'a mut boundary::Job {
+    let at = order::taken(desk, &answer.desk).expect("it was taken");
+    &mut answer.desk.table.jobs[at]
 }
 
 fn mischarged_opening(fault: u32, list: &[u32], start: u64, charge: u32) -> Answer {
@@ -485,8 +481,8 @@ fn mischarged_ask(fault: u32, desk: State, number: u32, work: u32, lead: u32) ->
         // The limit of work with it.
         (20, 3..=6) if work + charge > JOB_LENGTH_MOST => answer.refusal = 2,
         // The job taken without it, or with it twice.
-        (21, 0) => newest(&mut answer).owed -= charge,
-        (22, 0) => newest(&mut answer).owed += charge,
+        (21, 0) => newest(&desk, &mut answer).owed -= charge,
+        (22, 0) => newest(&desk, &mut answer).owed += charge,
         // Line 6 without the new job's or that of later pieces, or with that of live
         // jobs once more.
         (23, 6) if fits(work, 0, charge) => answer.refusal = 0,

@@ -424,10 +424,6 @@ fn the_deadline_length_of_a_state_in_order() {
 
 // ---------------------------------------------------------------- comparing calls
 
-fn in_order(desk: &State) -> bool {
-    read(desk).map_or(false, |state| state.in_order())
-}
-
 /// The state with every piece due when the next one comes.
 fn to_the_next(desk: &State) -> State {
     let mut next = *desk;
