@@ -141,6 +141,17 @@ fn calls(feed_count: usize, jobs: u32, charge: u32, early: u32) {
         });
         row(&at("end"), library, own);
     }
+    let (mut buffer, mut places) = ([0; desk::NUMBERS_A_JOB * desk::MOST_JOBS], [0; desk::NUMBERS_A_JOB * desk::MOST_JOBS]);
+    let listed = state.list(&mut buffer);
+    assert_eq!(plain::list(&state, &mut places), (listed.refusal, listed.count), "{}", at("list"));
+    assert!(buffer == places, "{}, the numbers", at("list"));
+    let library = time(|| {
+        black_box(black_box(state).list(black_box(&mut buffer)));
+    });
+    let own = time(|| {
+        black_box(plain::list(black_box(&state), black_box(&mut places)));
+    });
+    row(&at("list"), library, own);
 }
 
 /// 86,400 ticks with a request every 50, the answers compared; ticks a second of both.

@@ -3,7 +3,7 @@
 
 use crate::desk::{Desk, Feed, Job};
 use crate::desk::{HIGHEST_CHARGE, LAST_INSTANT, LONGEST_LEAD, LONGEST_PERIOD, LONGEST_ROUND, LONGEST_WORK};
-use crate::desk::{MOST_FEEDS, MOST_JOBS};
+use crate::desk::{MOST_FEEDS, MOST_JOBS, NUMBERS_A_JOB};
 
 fn gcd(a: u64, b: u64) -> u64 {
     if b == 0 { a } else { gcd(b, a % b) }
@@ -249,6 +249,21 @@ pub fn step(desk: &mut Desk) -> (u32, u32, u32) {
         return (3, 0, 0);
     }
     tick(desk)
+}
+
+/// The refusal, and the count of the live jobs, which stand in the front of the buffer by four numbers each.
+pub fn list(desk: &Desk, buffer: &mut [u64]) -> (u32, u32) {
+    if !in_order(desk) {
+        return (13, 0);
+    }
+    let jobs = jobs_of(desk);
+    if buffer.len() < NUMBERS_A_JOB * jobs.len() {
+        return (11, 0);
+    }
+    for (four, job) in buffer.chunks_exact_mut(NUMBERS_A_JOB).zip(jobs) {
+        four.copy_from_slice(&[job.number.into(), job.owed, job.deadline, job.figure]);
+    }
+    (0, jobs.len() as u32)
 }
 
 /// A tick of a state in order, not at the clock's end. Kind 0 is idle, 1 a job by number, 2 a feed by position.
