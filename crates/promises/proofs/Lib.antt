@@ -6,6 +6,7 @@ pub mod Carried
 pub mod Charge
 pub mod Kept
 pub mod Figures
+pub mod Unseen
 pub mod Arrival
 pub mod Load
 pub mod Finish
