@@ -11,7 +11,7 @@ use Rattle.edf.specs.Book.{Feed, Job, Book}
 use Rattle.edf.specs.Releases.{due}
 use Rattle.edf.specs.Pieces.{jobPiece}
 use Rattle.edf.specs.Fits.{Fits}
-use Rattle.edf.specs.Owed.{dueBy, Room}
+use Rattle.edf.specs.Owed.{owedBy, dueBy, Room}
 use Rattle.edf.specs.Order.{FeedInOrder, JobInOrder, InOrder}
 use Rattle.edf.specs.Calls.{taking, ending, restFeed, resting, Askable}
 use Rattle.lists.proofs.Lists.{each-imp, each-append, each-map, each-keep, total-le-all, total-append, total-map, total-keep-le}
@@ -44,6 +44,17 @@ unfolding taking
 taking-is-sound b j s a f =
     record { order = taking-in-order b j (s .order) a; room = fits-has-room (taking j b) (taking-in-order b j (s .order) a) f; light = s .light }
 
+-- an end and a rest leave no more owed by any instant
+pub ending-owes : (b : Book) (n D : ℕ) → owedBy (ending n b) D ≤ owedBy b D
+unfolding ending
+ending-owes b n D =
+    omega (
+      arith,
+      owedBy-split (ending n b) D,
+      owedBy-split b D,
+      total-keep-le (λ j. dueBy D (jobPiece (b .clock) j)) (λ j. not (eqb n (j .number))) (b .jobs),
+    )
+
 pub ending-is-sound : (b : Book) (n : ℕ) → Sound b → Sound (ending n b)
 unfolding ending Room
 ending-is-sound b n s =
@@ -54,13 +65,7 @@ ending-is-sound b n s =
         positions = s .order .positions;
         numbers = λ m. le-trans (total-keep-le (λ j. eq m (j .number)) (λ j. not (eqb n (j .number))) (b .jobs)) (s .order .numbers m);
       };
-      room = λ D h. omega (
-        arith,
-        owedBy-split (ending n b) D,
-        owedBy-split b D,
-        total-keep-le (λ j. dueBy D (jobPiece (b .clock) j)) (λ j. not (eqb n (j .number))) (b .jobs),
-        s .room D h,
-      );
+      room = λ D h. omega (arith, ending-owes b n D, s .room D h);
       light = s .light;
     }
 
@@ -76,6 +81,19 @@ rested-in-order t p f h =
       over = λ e. omega (arith, rested-le p f, h .over e);
     }
 
+pub resting-owes : (b : Book) (p D : ℕ) → owedBy (resting p b) D ≤ owedBy b D
+unfolding resting
+resting-owes b p D =
+    omega (
+      arith,
+      owedBy-split (resting p b) D,
+      owedBy-split b D,
+      total-map (feedOwes (b .clock) D) (restFeed p) (b .feeds),
+      total-le-all (λ f. feedOwes (b .clock) D (restFeed p f)) (feedOwes (b .clock) D)
+          (λ f. omega (arith, byThen-less D (due (f .plan) (b .clock)) (restFeed p f .owes) (f .owes) (rested-le p f)))
+          (b .feeds),
+    )
+
 pub resting-is-sound : (b : Book) (p : ℕ) → Sound b → Sound (resting p b)
 unfolding resting Room
 resting-is-sound b p s =
@@ -86,15 +104,6 @@ resting-is-sound b p s =
         positions = λ n. omega (arith, total-map (λ f. eq n (f .position)) (restFeed p) (b .feeds), s .order .positions n);
         numbers = s .order .numbers;
       };
-      room = λ D h. omega (
-        arith,
-        owedBy-split (resting p b) D,
-        owedBy-split b D,
-        total-map (feedOwes (b .clock) D) (restFeed p) (b .feeds),
-        total-le-all (λ f. feedOwes (b .clock) D (restFeed p f)) (feedOwes (b .clock) D)
-            (λ f. omega (arith, byThen-less D (due (f .plan) (b .clock)) (restFeed p f .owes) (f .owes) (rested-le p f)))
-            (b .feeds),
-        s .room D h,
-      );
+      room = λ D h. omega (arith, resting-owes b p D, s .room D h);
       light = subst Light (sym (resting-keeps-plans p b)) (s .light);
     }

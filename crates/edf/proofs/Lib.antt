@@ -22,6 +22,8 @@ pub mod Promises
 pub mod Loads
 pub mod Rounds
 pub mod Opening
+pub mod Share
+pub mod ShareRuns
 pub mod Horizon
 pub mod Signed
 pub mod Margin

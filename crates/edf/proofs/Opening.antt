@@ -5,10 +5,10 @@ use mathlib.Core.List.{List}
 use Prim.Native.Nat.{ℕ, _+_, _-_, _*_, _/_, _≤_, _<_}
 use native.Mathlib.Nat.{le-refl, mul-le-mul-left, sub-zero}
 use native.Mathlib.Omega.{arith}
-use Rattle.lists.specs.Lists.{eq, Each}
-use Rattle.edf.specs.Book.{Plan, Feed}
+use Rattle.lists.specs.Lists.{eq, total, Each}
+use Rattle.edf.specs.Book.{Plan, Feed, plans}
 use Rattle.edf.specs.Releases.{since, due}
-use Rattle.edf.specs.Owed.{byThen, laterBy, Room}
+use Rattle.edf.specs.Owed.{byThen, laterBy, owedBy, Room}
 use Rattle.edf.specs.Order.{PlanInOrder, FeedInOrder}
 use Rattle.edf.specs.Load.{stretch, Light, openedFeed, opened, Sound}
 use Rattle.edf.proofs.Loads.{Opens}
@@ -60,6 +60,19 @@ opened-in-order t f o =
       over = λ h. eqb-elim (λ b. cond b (f .plan .work) 0 ≡ 0) (since (f .plan) t) 0 (λ e. absurd (omega arith)) (λ e. refl);
     }
 
+-- no more is owed than a stretch as long can want
+pub opened-owes-little : (t D : ℕ) (fs : List Feed) → Each PlanInOrder (plans fs) → t < D → owedBy (opened t fs) D ≤ total (stretch (D - t)) (plans fs)
+unfolding opened
+opened-owes-little t D fs o h =
+    omega (
+      arith,
+      owedBy-split (opened t fs) D,
+      total-map (feedOwes t D) (openedFeed t) fs,
+      total-le (λ f. PlanInOrder (f .plan)) (λ f. feedOwes t D (openedFeed t f)) (λ f. stretch (D - t) (f .plan)) (λ f k. opened-owes t D f k h) fs
+          (each-of-map PlanInOrder (λ f. f .plan) fs o),
+      total-map (stretch (D - t)) (λ f. f .plan) fs,
+    )
+
 -- AN OPENING HAS ROOM
 pub opening-is-sound : (t : ℕ) (fs : List Feed) → Opens fs → Sound (opened t fs)
 unfolding opened Room Light
@@ -71,14 +84,7 @@ opening-is-sound t fs o =
         positions = λ n. omega (arith, total-map (λ f. eq n (f .position)) (openedFeed t) fs, o .positions n);
         numbers = λ n. omega arith;
       };
-      room = λ D h. omega (
-        arith,
-        owedBy-split (opened t fs) D,
-        total-map (feedOwes t D) (openedFeed t) fs,
-        total-le (λ f. PlanInOrder (f .plan)) (λ f. feedOwes t D (openedFeed t f)) (λ f. stretch (D - t) (f .plan)) (λ f k. opened-owes t D f k h) fs each,
-        total-map (stretch (D - t)) (λ f. f .plan) fs,
-        o .light (D - t),
-      );
+      room = λ D h. omega (arith, opened-owes-little t D fs (o .each) h, o .light (D - t));
       light = subst Light (sym (opened-keeps-plans t fs)) (o .light);
     }
   where

@@ -167,14 +167,17 @@ step-keeps-order b g s e =
         late (yes p) = absurd (omega (arith, z p))
         late (no p) = omega arith
 
+-- as the clock goes on, no more is owed than after the tick
+pub step-owes : (b : Book) (g : Who) → InOrder b → (D : ℕ) → owedBy (stepBy g b) D ≤ owedBy (serve g b) D
+unfolding stepBy
+step-owes b g o D =
+    owedBy-turn (serve g b) D
+    (subst (Each (λ p. (p .offset < p .period) × (p .lead ≤ p .period))) (sym (serve-keeps-plans g b))
+    (each-imp PlanInOrder (λ p. (p .offset < p .period) × (p .lead ≤ p .period)) (λ p h. (h .offset, h .short)) (plans (b .feeds)) (plans-in-order b o)))
+
 pub step-keeps-room : (b : Book) (g : Who) → Sound b → Edf b g → Room (stepBy g b)
 unfolding stepBy turn serve Room
-step-keeps-room b g s e D k =
-    le-trans
-    (owedBy-turn (serve g b) D
-    (subst (Each (λ p. (p .offset < p .period) × (p .lead ≤ p .period))) (sym (serve-keeps-plans g b))
-    (each-imp PlanInOrder (λ p. (p .offset < p .period) × (p .lead ≤ p .period)) (λ p h. (h .offset, h .short)) (plans (b .feeds)) (plans-in-order b (s .order)))))
-    (served-room b g s e D)
+step-keeps-room b g s e D k = le-trans (step-owes b g (s .order) D) (served-room b g s e D)
 
 -- KEPT BY A STEP: by any choice of earliest deadline, whatever the ties
 pub step-by-edf-is-sound : (b : Book) (g : Who) → Sound b → Edf b g → Sound (stepBy g b)

@@ -131,31 +131,39 @@ one-or-none (suc n) = inl (omega arith)
 served-le : (g : Who) (D : ℕ) (p : Piece) → dueBy D (servePiece g p) ≤ dueBy D p
 served-le g D p = byThen-less D (p .due) (p .owes - same g (p .who)) (p .owes) (omega arith)
 
--- THE TICK: after a tick by earliest deadline, what is owed by any instant is at most the time that is left from the next
-pub tick-leaves-room : (b : Book) (g : Who) → Edf b g → Light (plans (b .feeds)) → Each PlanInOrder (plans (b .feeds))
-    → ((D : ℕ) → owedBy b D ≤ D - b .clock)
-    → (D : ℕ) → owedBy (serve g b) D ≤ D - suc (b .clock)
-unfolding owedBy Light
-tick-leaves-room b g e light order room D =
+-- THE TICK: by earliest deadline it takes a tick from what is owed by D, or else nothing at hand is due by D, and what is owed are
+-- pieces that come later
+pub tick-owes : (b : Book) (g : Who) → Edf b g → Each PlanInOrder (plans (b .feeds)) → (D : ℕ)
+    → (owedBy (serve g b) D + 1 ≤ owedBy b D) ⊎ (owedBy (serve g b) D ≤ total (stretch (D - suc (b .clock))) (plans (b .feeds)))
+unfolding owedBy
+tick-owes b g e order D =
     go (some-or-each (λ p. 1 ≤ dueBy D p) (λ p. dueBy D p ≡ 0) (λ p. one-or-none (dueBy D p)) (atHand b))
   where
     no-more : Each (λ p. dueBy D (servePiece g p) ≤ dueBy D p) (atHand b)
     no-more = each (λ p. dueBy D (servePiece g p) ≤ dueBy D p) (served-le g D) (atHand b)
 
-    go : Some (λ p. 1 ≤ dueBy D p) (atHand b) ⊎ Each (λ p. dueBy D p ≡ 0) (atHand b) → owedBy (serve g b) D ≤ D - suc (b .clock)
+    go : Some (λ p. 1 ≤ dueBy D p) (atHand b) ⊎ Each (λ p. dueBy D p ≡ 0) (atHand b)
+        → (owedBy (serve g b) D + 1 ≤ owedBy b D) ⊎ (owedBy (serve g b) D ≤ total (stretch (D - suc (b .clock))) (plans (b .feeds)))
     go (inl s) =
-        omega (
-          arith,
-          owedBy-served g b D,
-          total-falls (λ p. dueBy D (servePiece g p)) (dueBy D) (atHand b) no-more (edf-due b g D e s),
-          room D,
-        )
+        inl (omega (arith, owedBy-served g b D, total-falls (λ p. dueBy D (servePiece g p)) (dueBy D) (atHand b) no-more (edf-due b g D e s)))
     go (inr z) =
-        omega (
+        inr
+        (omega (
           arith,
           owedBy-served g b D,
           total-mono (λ p. dueBy D (servePiece g p)) (dueBy D) (atHand b) no-more,
           total-zero (dueBy D) (atHand b) z,
           total-le PlanInOrder (laterBy (b .clock) D) (stretch (D - suc (b .clock))) (laterBy-le-stretch (b .clock) D) (plans (b .feeds)) order,
-          light (D - suc (b .clock)),
-        )
+        ))
+
+-- so what is owed by any instant is at most the time that is left from the next
+pub tick-leaves-room : (b : Book) (g : Who) → Edf b g → Light (plans (b .feeds)) → Each PlanInOrder (plans (b .feeds))
+    → ((D : ℕ) → owedBy b D ≤ D - b .clock)
+    → (D : ℕ) → owedBy (serve g b) D ≤ D - suc (b .clock)
+unfolding Light
+tick-leaves-room b g e light order room D = go (tick-owes b g e order D)
+  where
+    go : (owedBy (serve g b) D + 1 ≤ owedBy b D) ⊎ (owedBy (serve g b) D ≤ total (stretch (D - suc (b .clock))) (plans (b .feeds)))
+        → owedBy (serve g b) D ≤ D - suc (b .clock)
+    go (inl h) = omega (arith, h, room D)
+    go (inr h) = omega (arith, h, light (D - suc (b .clock)))

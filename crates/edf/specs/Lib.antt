@@ -14,5 +14,6 @@ pub mod Calls
 pub mod Load
 pub mod Finish
 pub mod Margin
+pub mod Share
 pub mod Runs
 pub mod Kept
