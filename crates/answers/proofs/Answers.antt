@@ -7,7 +7,7 @@ use native.Mathlib.Omega.{arith}
 use Rattle.answers.specs.declared.Refusal.{Refusal}
 use Rattle.answers.specs.declared.Verdict.{Verdict}
 use Rattle.answers.specs.declared.Verdict.the-variants.{Yes, No}
-use Rattle.answers.specs.Answers.{Line, firstOf, passes, isYes, onYes}
+use Rattle.answers.specs.Answers.{Line, firstOf, passes, numberOf, answerOf, isYes, onYes}
 
 -- a line that holds stops
 pub stops : (l : Line) (ls : List Line) → l .holds ≡ true → firstOf (l ∷ ls) ≡ No (l .refusal)
@@ -90,6 +90,14 @@ not-yes-before ls ms h = go (firstOf ls) refl h
     go : (v : Verdict) → firstOf ls ≡ v → isYes v ≡ false → firstOf (ls ++ ms) ≡ firstOf ls
     go Yes e k = let z : _≡_ {A = ℕ} 0 1 = cc in absurd (omega arith)
     go (No r) e k = stops-before ls ms r e ∙ sym e
+
+-- a refusal of another number comes from a later line
+pub from-later : (l : Line) (ls : List Line) (x : Refusal) → firstOf (l ∷ ls) ≡ No x → (numberOf (l .refusal) ≡ numberOf x → ⊥) → firstOf ls ≡ No x
+from-later l ls x e differ = go (l .holds) refl
+  where
+    go : (b : Bool) → l .holds ≡ b → firstOf ls ≡ No x
+    go true h = absurd (differ (ap answerOf (sym (stops l ls h) ∙ e)))
+    go false h = sym (goes-on l ls (firstOf ls) h refl) ∙ e
 
 -- what is handed back by the answer
 module _ {A : Type 0} (v : Verdict) (a b : A) where

@@ -21,6 +21,7 @@ use Rattle.answers.specs.declared.Refusal.the-variants.{
   LengthOff,
   NoTriangles,
   ChargeTooHigh,
+  NoShare,
 }
 use Rattle.answers.specs.declared.Verdict.{Verdict}
 use Rattle.answers.specs.declared.Verdict.the-variants.{Yes, No}
@@ -46,6 +47,7 @@ numberOf ShortFront = 15
 numberOf LengthOff = 16
 numberOf NoTriangles = 17
 numberOf ChargeTooHigh = 18
+numberOf NoShare = 19
 
 -- 0 for yes, else the refusal's number
 abbrev pub answerOf : Verdict → ℕ

@@ -22,6 +22,7 @@ pub enum Refusal {
     LengthOff,
     NoTriangles,
     ChargeTooHigh,
+    NoShare,
 }
 
 pub enum Verdict {
@@ -59,6 +60,7 @@ impl Refusal {
             Refusal::LengthOff => 16,
             Refusal::NoTriangles => 17,
             Refusal::ChargeTooHigh => 18,
+            Refusal::NoShare => 19,
         }
     }
 }

@@ -3,11 +3,11 @@ use mathlib.Core.Path.{_≡_, refl, sym, ap, subst, _∙_}
 use mathlib.Core.Logic.{_⊎_, inl, inr}
 use mathlib.Core.Bool.{cond}
 use mathlib.Core.List.{List, [], _∷_}
-use Prim.Native.Nat.{ℕ, suc, _+_, _-_, _*_, _/_, _%_, _≤_, _<_, _∣_}
+use Prim.Native.Nat.{ℕ, suc, _+_, _-_, _*_, _/_, _≤_, _<_, _∣_}
 use native.Mathlib.Nat.{mul-le-mul-left, le-of-mul-le-mul-left, mod-lt, div-add-mod', mul-div-le, mul-div-cancel'}
 use native.Mathlib.Omega.{arith}
 use Rattle.lists.specs.Lists.{total, Each}
-use Rattle.lists.proofs.Lists.{each-imp, each-both, total-le, total-append, total-scale}
+use Rattle.lists.proofs.Lists.{each-both, total-le, total-append, total-scale}
 use native.Mathlib.Decide.{decLe}
 use Rattle.lists.proofs.Tests.{ltb-elim}
 use Rattle.edf.specs.Book.{Plan, Feed, Job, Book, Who, plans}
@@ -21,7 +21,7 @@ use Rattle.edf.specs.Reordered.{Reordered}
 use Rattle.edf.specs.Load.{stretch, opened, Sound}
 use Rattle.edf.specs.Share.{laterOf, atShare, deadlineAt, LeavesShare, ShareFree}
 use Rattle.edf.proofs.Loads.{aRound}
-use Rattle.edf.proofs.Demand.{byThen-in, byThen-out, byThen-elim}
+use Rattle.edf.proofs.Demand.{byThen-in, byThen-out}
 use Rattle.edf.proofs.Tick.{owedBy-split, tick-owes}
 use Rattle.edf.proofs.Runner.{runner-edf}
 use Rattle.edf.proofs.Sound.{plans-in-order, step-owes}
@@ -46,6 +46,11 @@ unfolding atShare
 share-is-enough p q work h =
     let n = work * q + (p - 1) in
     omega (arith, div-add-mod' n p, mod-lt n {m = p} h)
+
+-- no deadline of the rule is before the instant of its ask
+pub deadline-ahead : (p q previous t work : ℕ) → t ≤ deadlineAt p q previous t work
+unfolding deadlineAt
+deadline-ahead p q previous t work = omega (arith, later-left t previous)
 
 -- THE SHARE FREE IS ROOM
 pub share-free-is-room : (p q previous : ℕ) (b : Book) → 1 ≤ q → ShareFree p q previous b → Room b

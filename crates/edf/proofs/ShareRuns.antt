@@ -8,6 +8,7 @@ use Rattle.edf.specs.Step.{step}
 use Rattle.edf.specs.Calls.{taking}
 use Rattle.edf.specs.Load.{Sound}
 use Rattle.edf.specs.Runs.{Did, after, Allowed}
+use Rattle.edf.specs.Reordered.{Reordered}
 use Rattle.edf.specs.Share.{deadlineAt, LeavesShare, ShareFree}
 use Rattle.edf.proofs.Plans.{step-keeps}
 use Rattle.edf.proofs.Sound.{step-is-sound}
@@ -50,27 +51,28 @@ moved-share-free p q previous (ends n) b h s l r f = ending-share-free p q previ
 moved-share-free p q previous (rests k) b h s l r f = resting-share-free p q previous b k f
 
 module _ {C S : Type 0} (y : System C S) (p q : ℕ) (previous : S → ℕ) where
-  -- the call, as the mathematics follows it, takes no job but by the rule, and the state keeps the previous deadline
-  unfoldable pub Fair : (x : Did C S) (s : S) → y .Good s → y .allows (x .call) s (x .came) → Type 0
-  Fair x s g a =
-      ByRule p q (previous s) (y .follows x s g a .1 .move) (y .book s) × (previous (x .came .state) ≡ previousAfter (previous s) (y .follows x s g a .1 .move))
+  -- the call is a move that takes no job but by the rule, and the state keeps the previous deadline
+  pub record Fair (x : Did C S) (s : S) : Type 0 where
+    pub move : Move
+    pub read : Reordered (moved move (y .book s)) (y .book (x .came .state))
+    pub rule : ByRule p q (previous s) move (y .book s)
+    pub keeps : previous (x .came .state) ≡ previousAfter (previous s) move
 
   -- and so each of these calls
-  unfoldable pub AllFair : (xs : List (Did C S)) (s : S) → y .Good s → Allowed (y .allows) xs s → Type 0
-  unfolding Allowed
-  AllFair [] s g a = Unit {0}
-  AllFair (x ∷ xs) s g a = Fair x s g (a .0) × AllFair xs (x .came .state) (y .follows x s g (a .0) .0) (a .1)
+  unfoldable pub AllFair : List (Did C S) → S → Type 0
+  AllFair [] s = Unit {0}
+  AllFair (x ∷ xs) s = Fair x s × AllFair xs (x .came .state)
 
   -- OVER ANY SUCH CALLS
-  pub run-share-free : 1 ≤ p → (xs : List (Did C S)) (s : S) (g : y .Good s) (a : Allowed (y .allows) xs s) → AllFair xs s g a
+  pub run-share-free : 1 ≤ p → (xs : List (Did C S)) (s : S) → y .Good s → Allowed (y .allows) xs s → AllFair xs s
       → LeavesShare p q (plans (y .book s .feeds)) → ShareFree p q (previous s) (y .book s)
       → ShareFree p q (previous (after xs s)) (y .book (after xs s))
-  unfolding after Allowed AllFair Fair
+  unfolding after Allowed AllFair
   run-share-free h [] s g a f l free = free
   run-share-free h (x ∷ xs) s g a f l free =
-      let (good, m) = y .follows x s g (a .0) in
+      let m = f .0 in
       let same : plans (y .book s .feeds) ≡ plans (y .book (x .came .state) .feeds) = sym (moved-keeps (λ k. k .plan) (λ n k. refl) (m .move) (y .book s)) ∙ ap plans (m .read .feeds) in
-      run-share-free h xs (x .came .state) good (a .1) (f .1) (subst (LeavesShare p q) same l)
-      (subst (λ d. ShareFree p q d (y .book (x .came .state))) (sym (f .0 .1))
+      run-share-free h xs (x .came .state) (y .follows x s g (a .0) .0) (a .1) (f .1) (subst (LeavesShare p q) same l)
+      (subst (λ d. ShareFree p q d (y .book (x .came .state))) (sym (m .keeps))
       (reordered-share-free p q (previousAfter (previous s) (m .move)) (moved (m .move) (y .book s)) (y .book (x .came .state)) (m .read)
-      (moved-share-free p q (previous s) (m .move) (y .book s) h (y .sound s g) l (f .0 .0) free)))
+      (moved-share-free p q (previous s) (m .move) (y .book s) h (y .sound s g) l (m .rule) free)))

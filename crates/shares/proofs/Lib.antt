@@ -1,0 +1,2 @@
+-- The laws that every crate above needs.
+pub mod Shares
