@@ -1,21 +1,19 @@
 -- Asking for a job: what the lines let pass, what is then judged, and that the contract leaves one outcome.
 use mathlib.Core.Path.{_≡_, refl, sym, ap, _∙_, subst}
 use mathlib.Core.Logic.{inl, inr}
-use mathlib.Core.Bool.{true, false, not, false≢true}
-use mathlib.Core.List.{List, [], _∷_, _++_, map}
-use Prim.Native.Nat.{ℕ, _≤_, _<_}
+use mathlib.Core.Bool.{true, false, false≢true}
+use mathlib.Core.List.{[], _∷_, _++_, map}
+use Prim.Native.Nat.{ℕ, _<_}
 use native.Mathlib.Omega.{arith}
-use lib.ListN.{length}
 use borrow.Author.Tests.{not-false, leb-true, leb-false}
 use Rattle.lists.specs.Lists.{Each, total}
 use Rattle.lists.proofs.Lists.{total-map}
 use Rattle.lists.proofs.Tests.{both}
 use Rattle.ticks.specs.Ticks.{mostJob, jobLength, ticks}
 use Rattle.ticks.proofs.Tests.{from-one}
-use Rattle.feeds.specs.Feeds.{inUse}
 use Rattle.jobs.specs.declared.Job.{Job}
 use Rattle.jobs.specs.declared.Table.{Table}
-use Rattle.jobs.specs.Jobs.{mostJobs, tableOf, Tidy, JobsIn, live}
+use Rattle.jobs.specs.Jobs.{mostJobs, noJob, tableOf, Tidy, JobsIn, live}
 use Rattle.jobs.specs.Figures.{Modest, Figured, figured}
 use Rattle.jobs.specs.Sorted.{Sorted, insert}
 use Rattle.jobs.proofs.Sorted.{insert-same}
@@ -27,18 +25,18 @@ use Rattle.answers.specs.declared.Refusal.{Refusal}
 use Rattle.answers.specs.declared.Verdict.{Verdict}
 use Rattle.answers.specs.declared.Verdict.the-variants.{Yes, No}
 use Rattle.answers.specs.Answers.{firstOf, isYes}
-use Rattle.answers.proofs.Answers.{yes-first, yes-both, yes-is-not-no}
+use Rattle.answers.proofs.Answers.{yes-first, yes-both, yes-is-not-no, on-yes, on-no}
 use Rattle.ledger.specs.declared.Ledger.{Ledger}
-use Rattle.ledger.specs.State.{inOrder, Sized, InOrder, moved}
-use Rattle.ledger.specs.Books.{bookJob, bookAt, bookOf}
+use Rattle.ledger.specs.State.{Sized, InOrder, moved}
+use Rattle.ledger.specs.Books.{bookJob, bookOf}
 use Rattle.ledger.proofs.Books.{book-of-figured}
-use Rattle.ledger.proofs.InOrder.{in-order}
+use Rattle.desk.proofs.InOrder.{in-order}
 use Rattle.room.proofs.Owed.{jobs-modest}
 use Rattle.desk.specs.declared.Desk.{Desk}
 use Rattle.desk.specs.declared.Answer.{Answer}
-use Rattle.desk.specs.State.{book}
+use Rattle.desk.specs.declared.Request.{Request}
 use Rattle.desk.specs.Calls.{disorder}
-use Rattle.desk.specs.Asking.{requestLines, placeLines, askLines, requested, with-job, Admissible, Judged, Asked}
+use Rattle.desk.specs.Asking.{requestLines, placeLines, askLines, requested, requestOf, with-job, Admissible, Judged, Asked}
 use Rattle.desk.proofs.Calls.{jobs-append}
 
 -- A REQUEST THAT NO OTHER LINE STOPS
@@ -74,7 +72,7 @@ admissible d number work lead s e =
 pub takes : (d : Desk) (j : Job) → Admissible d j
     → Tidy (d .ledger .table) × (d .ledger .table .count < mostJobs) × Sorted (live (d .ledger .table)) × Each Modest (live (d .ledger .table)) × Figured (live (d .ledger .table)) × Modest j
 takes d j a =
-    let order = in-order (d .ledger) (a .sized) (a .order) in
+    let order = in-order d (a .sized) (a .order) in
     (order .tidyTable, a .space, order .jobs .order, jobs-modest (d .ledger) order, order .jobs .figures, omega (arith, a .job .owed .1, order .charge))
 
 -- with the job that is asked for the state is still in order, and its book is the book with that job
@@ -83,7 +81,7 @@ module _ (d : Desk) (j : Job) (a : Admissible d j) (t : Table) (e : t ≡ tableO
   l = d .ledger
 
   order : InOrder l
-  order = in-order l (a .sized) (a .order)
+  order = in-order d (a .sized) (a .order)
 
   taken-live : live t ≡ figured (insert j (live (l .table)))
   taken-live = ap live e ∙ live-of (figured (insert j (live (l .table))))
@@ -115,6 +113,18 @@ module _ (d : Desk) (j : Job) (a : Admissible d j) (t : Table) (e : t ≡ tableO
             ∙ sym (total-map f bookJob (insert j js))
             ∙ ap (total f) (sym (ap (map bookJob) taken-live ∙ book-of-figured (insert j js)));
       }
+
+-- the request as the lines leave it: refused, or the job
+module _ (d : Desk) (number work lead : ℕ) (v : Verdict) (says : v ≡ firstOf (askLines d number (ticks work) (ticks lead))) where
+  pub refused-request : isYes v ≡ false → _≡_ {A = Request} (record { verdict = v; job = noJob }) (requestOf d number work lead)
+  unfolding requestOf
+  refused-request n =
+      λ i. record { verdict = says i; job = sym (on-no (firstOf (askLines d number (ticks work) (ticks lead))) (requested d number work lead) noJob (ap isYes (sym says) ∙ n)) i }
+
+  pub passed-request : isYes v ≡ true → _≡_ {A = Request} (record { verdict = v; job = requested d number work lead }) (requestOf d number work lead)
+  unfolding requestOf
+  passed-request y =
+      λ i. record { verdict = says i; job = sym (on-yes (firstOf (askLines d number (ticks work) (ticks lead))) (requested d number work lead) noJob (ap isYes (sym says) ∙ y)) i }
 
 module _ (d : Desk) (number work lead : ℕ) where
   -- an ask that a line stops

@@ -17,7 +17,7 @@ use Rattle.jobs.proofs.Sorted.{sorted-own, sorted-keep, sorted-taken}
 use Rattle.edf.specs.Book as edf
 use Rattle.edf.specs.Calls.{taking, ending, resting}
 use Rattle.ledger.specs.declared.Ledger.{Ledger}
-use Rattle.ledger.specs.State.{moved, inOrder, InOrder}
+use Rattle.ledger.specs.State.{moved, InOrder}
 use Rattle.ledger.specs.Books.{bookFeeds, bookJob, bookOf, jobOf, owingAs, rewritten, whoIs}
 use Rattle.ledger.proofs.Books.{owing-as-read, jobs-of-book, jobs-of-book-own}
 use Rattle.ledger.proofs.Pieces.{rested-read}
@@ -31,6 +31,7 @@ use Rattle.answers.specs.Answers.{firstOf, onYes}
 use Rattle.answers.proofs.Answers.{stops, goes-on}
 use Rattle.serving.specs.declared.Stepped as serving
 use Rattle.serving.specs.Tick.{lastLine, steppedOf}
+use Rattle.desk.specs.State.{inOrder}
 use Rattle.desk.specs.declared.Desk.{Desk}
 use Rattle.desk.specs.declared.Stepped.{Stepped}
 use Rattle.desk.specs.State as desk
@@ -84,7 +85,7 @@ module _ (l : Ledger) (h : InOrder l) where
       λ i. moved l (l .clock) (feeds-back i) (jobs-made t (insert j js) (js ++ (j ∷ [])) (taking (bookJob j) (bookOf l) .jobs) e (sorted-taken js j (h .jobs .order) (h .jobs .once) free) (jobs-append js j) i)
 
 -- a step of a state that is not in order
-pub step-stopped : (d : Desk) → inOrder (d .ledger) ≡ false
+pub step-stopped : (d : Desk) → inOrder d ≡ false
     → _≡_ {A = Stepped} (record { desk = d; verdict = No NotInOrder; who = Idle; owes = ticks 0 }) (stepOf d)
 unfolding stepOf
 step-stopped d out =
@@ -101,7 +102,7 @@ abbrev pub steppedDesk : Desk → serving.Stepped → Stepped
 steppedDesk d s = record { desk = desk.with d (s .ledger); verdict = s .verdict; who = s .who; owes = s .owes }
 
 -- a step of a state in order is the step below
-pub step-by-serving : (d : Desk) → inOrder (d .ledger) ≡ true → steppedDesk d (steppedOf (d .ledger)) ≡ stepOf d
+pub step-by-serving : (d : Desk) → inOrder d ≡ true → steppedDesk d (steppedOf (d .ledger)) ≡ stepOf d
 unfolding stepOf steppedOf
 step-by-serving d fine =
     let l = d .ledger in

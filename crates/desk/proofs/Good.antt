@@ -1,8 +1,10 @@
 -- Every call on a good desk hands back a good desk; one that says yes is its call of the mathematics.
 use mathlib.Core.Path.{_≡_, refl, sym, ap, _∙_, subst}
 use mathlib.Core.Logic.{inl, inr}
+use mathlib.Core.Bool.{true}
 use mathlib.Core.List.{List, []}
 use Prim.Native.Nat.{ℕ}
+use native.Mathlib.Omega.{arith}
 use borrow.Author.Tests.{not-false, ltb-true}
 use Rattle.ticks.specs.Ticks.{ticks, instant}
 use Rattle.feeds.specs.Lines.{feedsIn}
@@ -26,15 +28,22 @@ use Rattle.edf.specs.Reordered.{Reordered}
 use Rattle.ledger.proofs.Books.{book-of-rewritten, book-of-rewritten-own, book-in-table-order}
 use Rattle.desk.specs.declared.Desk.{Desk}
 use Rattle.desk.specs.declared.Answer.{Answer}
-use Rattle.desk.specs.State.{empty, book, rewritten, Good}
-use Rattle.desk.specs.Opening.{openLines, openedDesk, openedOf}
+use Rattle.desk.specs.State.{empty, book, rewritten, sharing, since, Good}
+use Rattle.desk.specs.Opening.{openLines, sharedLines, openedDesk, openedOf, openedSharedOf}
 use Rattle.desk.specs.Calls.{disorder, stepLines, stepOf, endLines, endOf, restLines, restOf}
 use Rattle.desk.specs.Asking.{askLines, requested, with-job, Admissible, Judged, Asked}
-use Rattle.desk.proofs.Opening.{opening-passes}
+use Rattle.desk.specs.Undated.{undatedLines, undatedDeadline, undatedLead, AskedUndated}
+use Rattle.shares.specs.declared.Share.{Share}
+use Rattle.shares.specs.Shares.{share, shareIn}
+use Rattle.shares.proofs.Shares.{share-in}
+use Rattle.desk.proofs.InOrder.{in-order-made}
+use Rattle.desk.proofs.Opening.{opening-passes, shared-passes}
 use Rattle.desk.proofs.Asking.{admissible, said-yes}
+use Rattle.desk.proofs.Undated.{undated-due, undated-yes}
 use Rattle.desk.proofs.Reachable.{
   good-rewritten,
   good-order,
+  good-beside,
   good-held,
   held-step,
   held-ending,
@@ -62,10 +71,26 @@ opening-is-good xs start charge =
     let t = opening-passes xs start charge e in
     opened-is-good (feedsIn xs) (ticks charge) (instant start) (t .0) (nothing-yet xs) (t .1) (t .2))
 
+-- a desk that has a share stays good
+sharing-is-good : (d : Desk) (s : Share) → shareIn s ≡ true → Good d → Good (sharing s d)
+sharing-is-good d s h g =
+    let k = good-beside d g in
+    record { sized = g .sized; order = in-order-made (sharing s d) (record { share = h; previous = k .previous }) (good-order d g); sound = g .sound }
+
+-- THE OPENING THAT CARRIES A SHARE
+pub shared-opening-is-good : (xs : List ℕ) (start charge p q : ℕ) → Good (openedSharedOf xs start charge p q .desk)
+unfolding openedSharedOf
+shared-opening-is-good xs start charge p q =
+    either (firstOf (sharedLines xs start charge p q)) (sharing (share p q) (openedDesk (feedsIn xs) (ticks charge) (instant start))) empty empty-is-good
+    (λ e.
+    let t = shared-passes xs start charge p q e in
+    sharing-is-good (openedDesk (feedsIn xs) (ticks charge) (instant start)) (share p q) (share-in (share p q) (t .0))
+    (opened-is-good (feedsIn xs) (ticks charge) (instant start) (t .1) (nothing-yet xs) (t .2) (t .3)))
+
 module _ (d : Desk) (g : Good d) where
   -- a sound book that the state can hold, written into it
   written : (b : Book) → Sound b → Held (d .ledger) b → Good (rewritten d b)
-  written b s h = good-rewritten (d .ledger) b (good-order d g) h (rewritten d b) refl s
+  written b s h = let k = good-beside d g in good-rewritten (d .ledger) b (good-order d g) h (rewritten d b) refl (record { share = k .share; previous = k .previous }) s
 
   -- the desk that a yes hands back is read as the book that was written into it
   read : (b : Book) (v : Verdict) → Held (d .ledger) b → InTableOrder b → v ≡ Yes → book (onYes v (rewritten d b) d) ≡ b
@@ -163,3 +188,45 @@ ask-refused d number work lead r a x n = go (firstOf (askLines d number (ticks w
     go : (v : Verdict) → firstOf (askLines d number (ticks work) (ticks lead)) ≡ v → r .desk ≡ d
     go Yes e = judged-refused d (requested d number work lead) r x (a .judged e) n
     go (No y) e = ap (λ k. k .desk) (a .stopped y e)
+
+-- AN ASK WITH NO DATE
+module _ (d : Desk) (number work : ℕ) (r : Answer) (a : AskedUndated d number work r) where
+  pub undated-refused : (x : Refusal) → r .verdict ≡ No x → r .desk ≡ d
+  undated-refused x n = go (firstOf (undatedLines d number)) refl
+    where
+      go : (v : Verdict) → firstOf (undatedLines d number) ≡ v → r .desk ≡ d
+      go Yes e =
+          let (b, k, f) = a .asked e in
+          let no : b .verdict ≡ No x = sym (ap (λ q. q .verdict) f) ∙ n in
+          ap (λ q. q .desk) f
+          ∙ ap (λ v. onYes v (since (instant (undatedDeadline d work)) (b .desk)) (b .desk)) no
+          ∙ ask-refused d number work (undatedLead d work) b k x no
+      go (No y) e = ap (λ q. q .desk) (a .stopped y e)
+
+  module _ (g : Good d) where
+    abbrev lead : ℕ
+    lead = undatedLead d work
+
+    pub undated-is-good : Good (r .desk)
+    undated-is-good = go (r .verdict) refl
+      where
+        go : (v : Verdict) → r .verdict ≡ v → Good (r .desk)
+        go Yes y =
+            let (b, k, said, same, s) = undated-yes d number work r a y in
+            let p = admissible d number work lead (g .sized) (said-yes d number work lead b k said) in
+            let h = ask-is-good d g number work lead b k in
+            let beside = good-beside (b .desk) h in
+            subst Good (sym same)
+            (record {
+              sized = h .sized;
+              order = in-order-made (since (instant (undatedDeadline d work)) (b .desk))
+                  (record { share = beside .share; previous = omega (arith, undated-due d work, p .job .within) })
+                  (good-order (b .desk) h);
+              sound = h .sound;
+            })
+        go (No x) n = subst Good (sym (undated-refused x n)) g
+
+    pub undated-book : r .verdict ≡ Yes → Reordered (with-job d (requested d number work (undatedLead d work))) (book (r .desk))
+    undated-book y =
+        let (b, k, said, same, s) = undated-yes d number work r a y in
+        subst (λ e. Reordered (with-job d (requested d number work lead)) (book e)) (sym same) (ask-book d g number work lead b k said)

@@ -1,34 +1,30 @@
--- The opening, line by line, and the state that it hands back.
-use mathlib.Core.Path.{_≡_, refl, sym, ap, _∙_}
-use mathlib.Core.Bool.{true, false, not}
+-- What the openings' lines let pass, and the state that an opening hands back.
+use mathlib.Core.Path.{_≡_, sym, ap, _∙_}
+use mathlib.Core.Bool.{true}
 use mathlib.Core.List.{List, [], _∷_, map}
 use Prim.Native.Nat.{ℕ, _≤_}
-use lib.Dec.{leb}
 use lib.ListN.{length}
 use borrow.Author.Tests.{not-false, leb-true}
 use Rattle.ticks.specs.declared.Instant.{Instant}
 use Rattle.ticks.specs.declared.Length.{Length}
-use Rattle.ticks.specs.Ticks.{lastInstant, mostCharge, instant, ticks}
+use Rattle.ticks.specs.Ticks.{lastInstant, mostCharge, ticks}
 use Rattle.feeds.specs.declared.Feed.{Feed}
 use Rattle.jobs.specs.Sorted.{sorted}
-use Rattle.feeds.specs.Feeds.{feedsOf, inUse}
+use Rattle.feeds.specs.Feeds.{feedsOf}
 use Rattle.feeds.specs.Lines.{shapeLines, feedLines, feedsIn, Passing}
 use Rattle.feeds.specs.Pieces.{arrived}
 use Rattle.feeds.proofs.Passing.{in-use-of}
 use Rattle.feeds.proofs.Lent.{read-passing}
 use Rattle.edf.specs.Load.{opened, openedFeed}
-use Rattle.answers.specs.declared.Refusal.the-variants.{PastLast, ChargeTooHigh}
-use Rattle.answers.specs.declared.Verdict.the-variants.{Yes, No}
-use Rattle.answers.specs.declared.Verdict.{Verdict}
-use Rattle.answers.specs.Answers.{Line, firstOf, isYes, onYes}
-use Rattle.answers.proofs.Answers.{stops, goes-on, goes-past, yes-both, yes-first, not-yes-before, on-no}
+use Rattle.answers.specs.declared.Verdict.the-variants.{Yes}
+use Rattle.answers.specs.Answers.{firstOf}
+use Rattle.answers.proofs.Answers.{yes-both, yes-first}
+use Rattle.shares.specs.Shares.{share, isShare}
 use Rattle.ledger.specs.State as ledger
 use Rattle.ledger.specs.Books.{bookFeeds, owingAs}
 use Rattle.ledger.proofs.Pieces.{arrived-opened}
-use Rattle.desk.specs.declared.Desk.{Desk}
-use Rattle.desk.specs.declared.Answer.{Answer}
 use Rattle.desk.specs.State.{empty, with}
-use Rattle.desk.specs.Opening.{startLine, chargeLine, openLines, openedDesk, Fresh, openedAt, openedOf}
+use Rattle.desk.specs.Opening.{startLine, chargeLine, shareLine, frontLines, openLines, sharedLines, openedDesk, Fresh}
 
 -- the pieces released at the opening instant are ready
 pub opened-ledger : (fs : List Feed) (charge : Length) (clock : Instant) → Fresh fs
@@ -40,57 +36,27 @@ opened-ledger fs charge clock z =
     λ i. with empty (ledger.laid clock charge (feeds i))
 
 module _ (xs : List ℕ) (start charge : ℕ) where
-  -- the lines after 12 and 8, after 3, and after 18
-  abbrev from-start : List Line
-  from-start = startLine start ∷ chargeLine charge ∷ feedLines (ticks charge) (feedsIn xs)
-
-  abbrev from-charge : List Line
-  from-charge = chargeLine charge ∷ feedLines (ticks charge) (feedsIn xs)
-
-  abbrev the-desk : Desk
-  the-desk = openedDesk (feedsIn xs) (ticks charge) (instant start)
-
-  -- what the lines say is what it answers
-  said : (v : Verdict) → firstOf (openLines xs start charge) ≡ v
-      → _≡_ {A = Answer} (record { desk = onYes v the-desk empty; verdict = v }) (openedOf xs start charge)
-  unfolding openedOf
-  said v says = λ i. record { desk = onYes (sym says i) the-desk empty; verdict = sym says i }
-
-  -- lines 12 and 8 stop it
-  pub refused-by-shape : isYes (firstOf (shapeLines (length xs))) ≡ false
-      → _≡_ {A = Answer} (record { desk = empty; verdict = firstOf (shapeLines (length xs)) }) (openedOf xs start charge)
-  refused-by-shape h =
-      let shape = firstOf (shapeLines (length xs)) in
-      (λ i. record { desk = sym (on-no shape the-desk empty h) i; verdict = shape })
-      ∙ said shape (not-yes-before (shapeLines (length xs)) from-start h)
-
-  module _ (y : firstOf (shapeLines (length xs)) ≡ Yes) where
-    -- line 3 stops it
-    pub refused-by-instant : leb start lastInstant ≡ false
-        → _≡_ {A = Answer} (record { desk = empty; verdict = No PastLast }) (openedOf xs start charge)
-    refused-by-instant h =
-        said (No PastLast) (goes-past (shapeLines (length xs)) from-start y ∙ stops (startLine start) from-charge (ap not h))
-
-    module _ (h : leb start lastInstant ≡ true) where
-      -- line 18 stops it
-      pub refused-by-charge : leb charge mostCharge ≡ false
-          → _≡_ {A = Answer} (record { desk = empty; verdict = No ChargeTooHigh }) (openedOf xs start charge)
-      refused-by-charge k =
-          said (No ChargeTooHigh)
-          (goes-past (shapeLines (length xs)) from-start y
-          ∙ goes-on (startLine start) from-charge _ (ap not h) (stops (chargeLine charge) (feedLines (ticks charge) (feedsIn xs)) (ap not k)))
-
-      -- past them the feeds' own lines answer
-      pub judged-by-feeds : leb charge mostCharge ≡ true → openedAt (feedsIn xs) (ticks charge) (instant start) ≡ openedOf xs start charge
-      judged-by-feeds k =
-          said (firstOf (feedLines (ticks charge) (feedsIn xs)))
-          (goes-past (shapeLines (length xs)) from-start y
-          ∙ goes-on (startLine start) from-charge _ (ap not h) (goes-on (chargeLine charge) (feedLines (ticks charge) (feedsIn xs)) _ (ap not k) refl))
+  -- what lines 12, 8, 3 and 18 let pass
+  pub front-passes : firstOf (frontLines xs start charge) ≡ Yes → (firstOf (shapeLines (length xs)) ≡ Yes) × (start ≤ lastInstant) × (charge ≤ mostCharge)
+  front-passes e =
+      let t = yes-both (shapeLines (length xs)) (startLine start ∷ chargeLine charge ∷ []) e in
+      let u = yes-first (startLine start) (chargeLine charge ∷ []) (t .1) in
+      let w = yes-first (chargeLine charge) [] (u .1) in
+      (t .0, leb-true _ _ (not-false _ (u .0)), leb-true _ _ (not-false _ (w .0)))
 
   -- where no line holds, the feeds pass, the charge is within its limit and the clock can read the instant
+  passed : firstOf (frontLines xs start charge) ≡ Yes → firstOf (feedLines (ticks charge) (feedsIn xs)) ≡ Yes
+      → Passing (ticks charge) (feedsIn xs) × (charge ≤ mostCharge) × (start ≤ lastInstant)
+  passed e f = let t = front-passes e in (read-passing xs (ticks charge) (t .0) f, t .2, t .1)
+
   pub opening-passes : firstOf (openLines xs start charge) ≡ Yes → Passing (ticks charge) (feedsIn xs) × (charge ≤ mostCharge) × (start ≤ lastInstant)
-  opening-passes e =
-      let t = yes-both (shapeLines (length xs)) from-start e in
-      let u = yes-first (startLine start) from-charge (t .1) in
-      let w = yes-first (chargeLine charge) (feedLines (ticks charge) (feedsIn xs)) (u .1) in
-      (read-passing xs (ticks charge) (t .0) (w .1), leb-true _ _ (not-false _ (w .0)), leb-true _ _ (not-false _ (u .0)))
+  opening-passes e = let t = yes-both (frontLines xs start charge) (feedLines (ticks charge) (feedsIn xs)) e in passed (t .0) (t .1)
+
+  -- and where a share is carried, it is one
+  pub shared-passes : (p q : ℕ) → firstOf (sharedLines xs start charge p q) ≡ Yes
+      → (isShare (share p q) ≡ true) × Passing (ticks charge) (feedsIn xs) × (charge ≤ mostCharge) × (start ≤ lastInstant)
+  shared-passes p q e =
+      let t = yes-both (frontLines xs start charge) (shareLine (share p q) ∷ feedLines (ticks charge) (feedsIn xs)) e in
+      let u = yes-first (shareLine (share p q)) (feedLines (ticks charge) (feedsIn xs)) (t .1) in
+      let w = passed (t .0) (u .1) in
+      (not-false _ (u .0), w .0, w .1, w .2)

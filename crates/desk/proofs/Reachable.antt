@@ -36,8 +36,8 @@ use Rattle.edf.proofs.Loads.{Opens}
 use Rattle.edf.proofs.Plans as plans
 use Rattle.edf.proofs.Opening.{opening-is-sound}
 use Rattle.ledger.specs.declared.Ledger.{Ledger}
-use Rattle.ledger.specs.State.{Sized, InOrder, inOrder}
-use Rattle.ledger.specs.Books.{bookFeeds, bookJob, bookOf, jobOf, owingAs, rewritten, InTableOrder, JobHeld, SameFeeds, Held}
+use Rattle.ledger.specs.State.{Sized, InOrder}
+use Rattle.ledger.specs.Books.{bookFeeds, bookJob, jobOf, owingAs, rewritten, InTableOrder, JobHeld, SameFeeds, Held}
 use Rattle.ledger.proofs.Books.{length-owing-as, book-of-rewritten, book-of-rewritten-own}
 use Rattle.edf.proofs.Reordered.{reordered-sound}
 use Rattle.ledger.proofs.InOrder as ledger
@@ -46,6 +46,7 @@ use Rattle.desk.specs.State as state
 use Rattle.desk.specs.State.{book, Good, empty}
 use Rattle.desk.specs.Opening.{laid, openedDesk, Fresh}
 use Rattle.desk.specs.Asking.{with-job, Admissible}
+use Rattle.desk.proofs.InOrder.{Beside, in-order, in-order-beside, in-order-made}
 
 -- a state that a book is written into has as many places as before
 pub rewritten-sized : (l : Ledger) (b : edf.Book) → InOrder l → length (b .jobs) ≤ mostJobs → Sized (rewritten l b)
@@ -60,17 +61,20 @@ rewritten-sized l b o few =
 
 -- a state that a book can be written into, which is then in order and read as that book
 module _ (l : Ledger) (b : edf.Book) (o : InOrder l) (h : Held l b) where
-  pub good-rewritten : (d : Desk) → d .ledger ≡ rewritten l b → Sound b → Good d
-  good-rewritten d e s =
+  pub good-rewritten : (d : Desk) → d .ledger ≡ rewritten l b → Beside d → Sound b → Good d
+  good-rewritten d e k s =
       subst Good (λ i. state.with d (sym e i))
       (record {
         sized = rewritten-sized l b o (h .few);
-        order = ledger.in-order-made (rewritten l b) (ledger.rewritten-in-order l b o h);
+        order = in-order-made (state.with d (rewritten l b)) (record { share = k .share; previous = k .previous }) (ledger.rewritten-in-order l b o h);
         sound = reordered-sound _ _ (book-of-rewritten l b (h .feeds)) s;
       })
 
 pub good-order : (d : Desk) → Good d → InOrder (d .ledger)
-good-order d g = ledger.in-order (d .ledger) (g .sized) (g .order)
+good-order d g = in-order d (g .sized) (g .order)
+
+pub good-beside : (d : Desk) → Good d → Beside d
+good-beside d g = in-order-beside d (g .order)
 
 pub good-held : (d : Desk) → Good d → Held (d .ledger) (book d)
 good-held d g = ledger.state-held (d .ledger) (good-order d g)
@@ -167,7 +171,7 @@ pub held-taking : (d : Desk) (j : Job) → Held (d .ledger) (book d) → Sound (
 unfolding taking
 held-taking d j h s a =
     let js = live (d .ledger .table) in
-    let o = ledger.in-order (d .ledger) (a .sized) (a .order) in
+    let o = in-order d (a .sized) (a .order) in
     let many : length (map bookJob js) ≡ length js = length-map js bookJob in
     let more : length (map bookJob js ++ (bookJob j ∷ [])) ≡ length (map bookJob js) + 1 = length-append (map bookJob js) (bookJob j ∷ []) in
     record {
@@ -226,6 +230,7 @@ opened-is-good fs c clock p z low l =
     })
     (openedDesk fs c clock)
     refl
+    (record { share = refl; previous = omega arith })
     s
 
 -- its book is the one that the mathematics opens
@@ -247,6 +252,6 @@ empty-is-good =
     let o = laid-in-order [] (ticks 0) (instant 0) (passing-none (ticks 0)) tt (omega arith) (omega arith) in
     record {
       sized = record { feeds = length-filled mostFeeds noFeed [] (omega arith); jobs = length-filled mostJobs noJob [] (omega arith) };
-      order = ledger.in-order-made (empty .ledger) o;
+      order = in-order-made empty (record { share = refl; previous = omega arith }) o;
       sound = opened-sound (ticks 0) 0 [] (passing-none (ticks 0));
     }

@@ -14,7 +14,7 @@ use Rattle.jobs.specs.Jobs.{mostJobs, noJob, job, lacks, times, JobIn, live}
 use Rattle.edf.specs.Book.{Book}
 use Rattle.edf.specs.Fits.{Fits}
 use Rattle.edf.specs.Calls.{taking}
-use Rattle.ledger.specs.State.{inOrder, Sized}
+use Rattle.ledger.specs.State.{Sized}
 use Rattle.ledger.specs.Books.{bookJob}
 use Rattle.desk.specs.declared.Desk.{Desk}
 use Rattle.desk.specs.declared.Answer.{Answer}
@@ -24,13 +24,17 @@ use Rattle.answers.specs.declared.Refusal.the-variants.{NumberZero, Outside, Pa
 use Rattle.answers.specs.declared.Verdict.the-variants.{Yes, No}
 use Rattle.answers.specs.Answers.{Line, line, firstOf, onYes}
 use Rattle.desk.specs.Calls.{disorder}
-use Rattle.desk.specs.State.{book, rewritten}
+use Rattle.desk.specs.State.{book, rewritten, inOrder}
 
--- the lines of the request itself: the number is 0 (1), the work or the lead is outside its limits (2), the deadline is past
--- the clock's last instant (3)
+-- the number is 0 (1)
+abbrev pub numberLine : ℕ → Line
+numberLine number = line (not (leb 1 number)) NumberZero
+
+-- the lines of the request itself: line 1, the work or the lead is outside its limits (2), the deadline is past the clock's last
+-- instant (3)
 abbrev pub requestLines : Instant → ℕ → Length → Length → List Line
 requestLines clock number work lead =
-    line (not (leb 1 number)) NumberZero
+    numberLine number
     ∷ line (not (jobLength work && jobLength lead)) Outside
     ∷ line (not (within (plus clock lead))) PastLast
     ∷ []
@@ -63,7 +67,7 @@ with-job d j = taking (bookJob j) (book d)
 -- a request that no other line stops
 pub record Admissible (d : Desk) (j : Job) : Type 0 where
   pub sized : Sized (d .ledger)
-  pub order : inOrder (d .ledger) ≡ true
+  pub order : inOrder d ≡ true
   pub job : JobIn (d .ledger .charge) (d .ledger .clock) j
   pub free : times (j .number) (live (d .ledger .table)) ≡ 0
   pub space : d .ledger .table .count < mostJobs

@@ -10,7 +10,6 @@ use Rattle.feeds.specs.Pieces.{owesAt}
 use Rattle.jobs.specs.Jobs.{numbersAJob, lacks, live}
 use Rattle.edf.specs.Step.{runner, ran, step}
 use Rattle.edf.specs.Calls.{ending, resting}
-use Rattle.ledger.specs.State.{inOrder}
 use Rattle.ledger.specs.Books.{whoIs}
 use Rattle.serving.specs.Tick.{lastLine}
 use Rattle.listing.specs.Words.{words}
@@ -23,11 +22,11 @@ use Rattle.desk.specs.declared.Counted.{Counted}
 use Rattle.desk.specs.declared.Answer.{Answer}
 use Rattle.desk.specs.declared.Stepped.{Stepped}
 use Rattle.desk.specs.Answers.{answered}
-use Rattle.desk.specs.State.{book, rewritten}
+use Rattle.desk.specs.State.{book, rewritten, inOrder}
 
 -- a state that is not in order (13)
 abbrev pub disorder : Desk → Line
-disorder d = line (not (inOrder (d .ledger))) NotInOrder
+disorder d = line (not (inOrder d)) NotInOrder
 
 -- the clock is at its last instant (3)
 abbrev pub stepLines : Desk → List Line

@@ -3,3 +3,4 @@ pub mod Answers
 pub mod Opening
 pub mod Calls
 pub mod Asking
+pub mod Undated

@@ -9,26 +9,32 @@ use jobs::Job;
 use jobs::Table;
 use ledger::Ledger;
 use listing::Part;
+use shares::Share;
 use ticks::Instant;
 use ticks::Length;
 ghost use mathlib.Core.Path.{_≡_};
+ghost use mathlib.Core.Bool.{true};
 ghost use Prim.Native.Nat.{_≤_, _<_, _^_};
 ghost use lib.ListN.{length};
-ghost use Rattle.ticks.specs.Ticks.{lastInstant, mostCharge};
-ghost use Rattle.feeds.specs.Feeds.{inUse, Tidy};
+ghost use Rattle.ticks.specs.Ticks.{lastInstant, ticks};
 ghost use Rattle.jobs.specs.Jobs.{mostJobs};
 ghost use Rattle.listing.specs.Labels.{labelOf, PartAt};
+ghost use Rattle.answers.specs.declared.Verdict.the-variants.{Yes};
 ghost use Rattle.answers.specs.Answers.{firstOf};
-ghost use Rattle.ledger.specs.State.{inOrder};
-ghost use Rattle.desk.specs.State.{empty, with};
-ghost use Rattle.desk.specs.Opening.{openedOf, openedAt, Fresh};
+ghost use Rattle.shares.specs.Shares.{isShare};
+ghost use Rattle.desk.specs.State.{empty, with, sharing, since, inOrder};
+ghost use Rattle.desk.specs.Opening.{frontLines, openedOf, openedAt, openedSharedOf};
 ghost use Rattle.desk.specs.Calls.{stepOf, endLines, endOf, restLines, restOf, listLines, countedOf, listedOf, runnerOf};
-ghost use Rattle.desk.specs.Asking.{requestLines, placeLines, askLines, requestOf, Admissible, Judged, Asked};
+ghost use Rattle.desk.specs.Undated.{undatedLines, undatedLead, remembering, AskedUndated};
+ghost use Rattle.desk.specs.Asking.{requestLines, placeLines, requestOf, Admissible, Judged, Asked};
 
-// The state of a box, and what the calls keep beside it.
+// The state of a box, and what the calls keep beside it: the share for exports with no date, and the deadline of the last one
+// that was taken, 0 before the first.
 #[repr(C)]
 pub struct Desk {
     pub ledger: Ledger,
+    pub share: Share,
+    pub previous: Instant,
 }
 
 // The state that a call hands back, and its answer.
@@ -59,19 +65,27 @@ pub struct Counted {
 }
 
 impl Desk {
-    // The empty state: clock 0, charge 0, no feeds, no jobs.
+    // The empty state: clock 0, charge 0, no feeds, no jobs, no share.
     pub fn none() -> Desk
         ensures { λ r. ⌜ r ≡ empty ⌝ }
     {
         Desk {
             ledger: Ledger::none(),
+            share: Share::none(),
+            previous: Instant::FIRST,
         }
     }
 
     // Whether any state that is handed in is in order.
     pub fn in_order(self) -> bool
-        ensures { λ r. ⌜ r ≡ inOrder (self .ledger) ⌝ }
+        ensures { λ r. ⌜ r ≡ inOrder self ⌝ }
     {
+        if !self.share.in_order() {
+            return false;
+        }
+        if !self.previous.within() {
+            return false;
+        }
         self.ledger.in_order()
     }
 
@@ -79,43 +93,109 @@ impl Desk {
     pub fn with(self, ledger: Ledger) -> Desk
         ensures { λ r. ⌜ r ≡ with self ledger ⌝ }
     {
-        Desk { ledger }
+        let share = self.share;
+        let previous = self.previous;
+        Desk {
+            ledger,
+            share,
+            previous,
+        }
     }
 
-    // Opening with a list of feeds at an instant, under a charge: lines 12 and 8, then 3, then 18, then 2, 9 and 10.
-    pub fn open(list: &[u32], start: u64, charge: u32) -> Answer
-        ensures { λ r. ⌜ r ≡ openedOf (now (list .entry)) start charge ⌝ }
+    // The desk with a share for exports with no date.
+    fn sharing(self, share: Share) -> Desk
+        ensures { λ r. ⌜ r ≡ sharing share self ⌝ }
+    {
+        let ledger = self.ledger;
+        let previous = self.previous;
+        Desk {
+            ledger,
+            share,
+            previous,
+        }
+    }
+
+    // The desk once an export with no date was taken that is due then.
+    fn since(self, previous: Instant) -> Desk
+        ensures { λ r. ⌜ r ≡ since previous self ⌝ }
+    {
+        let ledger = self.ledger;
+        let share = self.share;
+        Desk {
+            ledger,
+            share,
+            previous,
+        }
+    }
+
+    // Lines 12 and 8, then 3, then 18: those of both openings that come before all others.
+    fn front_stops(list: &[u32], start: u64, charge: u32) -> Verdict
+        ensures { λ r. ⌜ r ≡ firstOf (frontLines (now (list .entry)) start charge) ⌝ }
     {
         let shape = feeds::shape(list);
         if !shape.is_yes() {
-            return Answer {
-                desk: Desk::none(),
-                verdict: shape,
-            };
+            return shape;
         }
-        let clock = Instant::at(start);
-        if !clock.within() {
-            return Answer {
-                desk: Desk::none(),
-                verdict: Verdict::No(Refusal::PastLast),
-            };
+        if !Instant::at(start).within() {
+            return Verdict::No(Refusal::PastLast);
         }
-        let charge = Length::of(charge);
-        if !charge.suits_charge() {
-            return Answer {
-                desk: Desk::none(),
-                verdict: Verdict::No(Refusal::ChargeTooHigh),
-            };
+        if !Length::of(charge).suits_charge() {
+            return Verdict::No(Refusal::ChargeTooHigh);
         }
-        Desk::open_at(feeds::taken(list), charge, clock)
+        Verdict::Yes
     }
 
-    // The opening of feeds that lines 12 and 8 let pass, under a charge within its limit, at an instant that the clock can
-    // read.
-    fn open_at(feeds: Feeds, charge: Length, clock: Instant) -> Answer
-        requires { ⌜ Tidy feeds × Fresh (inUse feeds) × (charge .0 ≤ mostCharge) × (clock .0 ≤ lastInstant) ⌝ }
-        ensures { λ r. ⌜ r ≡ openedAt (inUse feeds) charge clock ⌝ }
+    // Opening with a list of feeds at an instant, under a charge: lines 12, 8, 3 and 18, then 2, 9 and 10.
+    pub fn open(list: &[u32], start: u64, charge: u32) -> Answer
+        ensures { λ r. ⌜ r ≡ openedOf (now (list .entry)) start charge ⌝ }
     {
+        let verdict = Desk::front_stops(list, start, charge);
+        if !verdict.is_yes() {
+            return Answer {
+                desk: Desk::none(),
+                verdict,
+            };
+        }
+        Desk::open_at(list, start, charge)
+    }
+
+    // The opening that carries a share p/q for exports with no date: line 19 comes after 18.
+    pub fn open_shared(list: &[u32], start: u64, charge: u32, p: u32, q: u32) -> Answer
+        ensures { λ r. ⌜ r ≡ openedSharedOf (now (list .entry)) start charge p q ⌝ }
+    {
+        let verdict = Desk::front_stops(list, start, charge);
+        if !verdict.is_yes() {
+            return Answer {
+                desk: Desk::none(),
+                verdict,
+            };
+        }
+        let share = Share::of(p, q);
+        if !share.is_share() {
+            return Answer {
+                desk: Desk::none(),
+                verdict: Verdict::No(Refusal::NoShare),
+            };
+        }
+        let opened = Desk::open_at(list, start, charge);
+        let verdict = opened.verdict;
+        if !verdict.is_yes() {
+            return opened;
+        }
+        let desk = opened.desk;
+        Answer {
+            desk: desk.sharing(share),
+            verdict,
+        }
+    }
+
+    // The opening of a list that lines 12, 8, 3 and 18 let pass: lines 2, 9 and 10, then the pieces of the opening instant.
+    fn open_at(list: &[u32], start: u64, charge: u32) -> Answer
+        requires { ⌜ firstOf (frontLines (now list) start charge) ≡ Yes ⌝ }
+        ensures { λ r. ⌜ r ≡ openedAt (now (list .entry)) start charge ⌝ }
+    {
+        let feeds = feeds::taken(list);
+        let charge = Length::of(charge);
         let verdict = feeds.sound(charge);
         if !verdict.is_yes() {
             return Answer {
@@ -123,6 +203,7 @@ impl Desk {
                 verdict,
             };
         }
+        let clock = Instant::at(start);
         let ledger = Ledger::laid(clock, charge, feeds.arrive(charge, clock));
         Answer {
             desk: Desk::none().with(ledger),
@@ -221,7 +302,7 @@ impl Desk {
 
     // Lines 1, 2 and 3: those of the request itself.
     fn request_stops(clock: Instant, number: u32, work: Length, lead: Length) -> Verdict
-        requires { ⌜ (clock .0 ≤ lastInstant) × (lead .0 < 2 ^ 32) ⌝ }
+        requires { ⌜ (clock .0 ≤ lastInstant) × (lead .0 < 2 ^ 48) ⌝ }
         ensures { λ r. ⌜ r ≡ firstOf (requestLines clock number work lead) ⌝ }
     {
         if number < Job::LOWEST {
@@ -253,28 +334,19 @@ impl Desk {
         Verdict::Yes
     }
 
-    // Lines 13 and 1 to 5.
-    fn ask_stops(self, number: u32, work: Length, lead: Length) -> Verdict
-        requires { ⌜ lead .0 < 2 ^ 32 ⌝ }
-        ensures { λ r. ⌜ r ≡ firstOf (askLines self number work lead) ⌝ }
+    // Lines 1 to 5 of a desk in order, and what is asked for where none of them stops it.
+    fn asked(self, number: u32, work: Length, lead: Length) -> Request
+        requires { ⌜ (inOrder self ≡ true) × (work .0 < 2 ^ 32) × (lead .0 < 2 ^ 48) ⌝ }
+        ensures { λ r. ⌜ r ≡ requestOf self number (work .0) (lead .0) ⌝ }
     {
-        if !self.in_order() {
-            return Verdict::No(Refusal::NotInOrder);
-        }
         let own = Desk::request_stops(self.ledger.clock, number, work, lead);
         if !own.is_yes() {
-            return own;
+            return Request {
+                verdict: own,
+                job: Job::NONE,
+            };
         }
-        Desk::place_stops(self.ledger.table, number)
-    }
-
-    // What is asked for, unless one of lines 13 and 1 to 5 stops it.
-    pub fn request(self, number: u32, work: u32, lead: u32) -> Request
-        ensures { λ r. ⌜ r ≡ requestOf self number work lead ⌝ }
-    {
-        let owed = Length::of(work);
-        let ahead = Length::of(lead);
-        let verdict = self.ask_stops(number, owed, ahead);
+        let verdict = Desk::place_stops(self.ledger.table, number);
         if !verdict.is_yes() {
             return Request {
                 verdict,
@@ -285,10 +357,23 @@ impl Desk {
             verdict,
             job: Job::of(
                 number,
-                owed.and(self.ledger.charge),
-                self.ledger.clock.plus(ahead),
+                work.and(self.ledger.charge),
+                self.ledger.clock.plus(lead),
             ),
         }
+    }
+
+    // What is asked for, unless one of lines 13 and 1 to 5 stops it.
+    pub fn request(self, number: u32, work: u32, lead: u32) -> Request
+        ensures { λ r. ⌜ r ≡ requestOf self number work lead ⌝ }
+    {
+        if !self.in_order() {
+            return Request {
+                verdict: Verdict::No(Refusal::NotInOrder),
+                job: Job::NONE,
+            };
+        }
+        self.asked(number, Length::of(work), Length::of(lead))
     }
 
     // Line 6: the request is taken exactly if it fits.
@@ -324,6 +409,56 @@ impl Desk {
             };
         }
         self.admit(job)
+    }
+
+    // Lines 13, 1 and 19 of an ask with no date.
+    fn undated_stops(self, number: u32) -> Verdict
+        ensures { λ r. ⌜ r ≡ firstOf (undatedLines self number) ⌝ }
+    {
+        if !self.in_order() {
+            return Verdict::No(Refusal::NotInOrder);
+        }
+        if number < Job::LOWEST {
+            return Verdict::No(Refusal::NumberZero);
+        }
+        if !self.share.is_share() {
+            return Verdict::No(Refusal::NoShare);
+        }
+        Verdict::Yes
+    }
+
+    // How far ahead an export with no date is due: its time at the share, from the previous one's deadline on or from now.
+    fn undated_lead(self, work: Length) -> Length
+        requires { ⌜ (inOrder self ≡ true) × (isShare (self .share) ≡ true) × (work .0 < 2 ^ 32) ⌝ }
+        ensures { λ r. ⌜ (r ≡ ticks (undatedLead self (work .0))) × (r .0 < 2 ^ 48) ⌝ }
+    {
+        let clock = self.ledger.clock;
+        let time = self.share.time_for(work.and(self.ledger.charge));
+        clock.later_of(self.previous).plus(time).ticks_since(clock)
+    }
+
+    // Asking for a job with no date: its deadline goes by the rule, then it is asked for as any other, and a yes is remembered.
+    pub fn ask_undated(self, number: u32, work: u32) -> Answer
+        ensures { λ r. ⌜ AskedUndated self number work r ⌝ }
+    {
+        let stops = self.undated_stops(number);
+        if !stops.is_yes() {
+            return Answer {
+                desk: self,
+                verdict: stops,
+            };
+        }
+        let work = Length::of(work);
+        let request = self.asked(number, work, self.undated_lead(work));
+        let verdict = request.verdict;
+        let job = request.job;
+        if !verdict.is_yes() {
+            return Answer {
+                desk: self,
+                verdict,
+            };
+        }
+        self.admit(job).remembering(job.deadline)
     }
 
     // Lines 13 and 11 of a list.
@@ -378,5 +513,22 @@ impl Desk {
         ensures { λ r. ⌜ r ≡ labelOf (runnerOf self) (now («job_labels» .entry)) (now («feed_labels» .entry)) ⌝ }
     {
         listing::place(self.runner(), job_labels, feed_labels)
+    }
+}
+
+impl Answer {
+    // A yes to an export with no date is remembered by its deadline.
+    fn remembering(self, deadline: Instant) -> Answer
+        ensures { λ r. ⌜ r ≡ remembering deadline self ⌝ }
+    {
+        let verdict = self.verdict;
+        if !verdict.is_yes() {
+            return self;
+        }
+        let desk = self.desk;
+        Answer {
+            desk: desk.since(deadline),
+            verdict,
+        }
     }
 }

@@ -12,11 +12,12 @@ use Rattle.answers.specs.declared.Verdict.the-variants.{Yes, No}
 use Rattle.answers.specs.Answers.{firstOf, onYes}
 use Rattle.desk.specs.Calls.{listLines, countedOf}
 use Rattle.desk.proofs.Asking.{asked-once}
+use Rattle.desk.proofs.Undated.{asked-undated-once}
 use Rattle.questions.proofs.Meshes.{asked-mesh-once}
 use Rattle.questions.proofs.Whys.{explained-once}
 use Rattle.desk_c.specs.declared.Answer.{Answer}
 use Rattle.desk_c.specs.declared.Reason.{Reason}
-use Rattle.desk_c.specs.Flat.{flatAnswer, flatWhy, AskedFlat, AskedMeshFlat, WhyFlat}
+use Rattle.desk_c.specs.Flat.{flatAnswer, flatWhy, AskedFlat, AskedMeshFlat, AskedUndatedFlat, WhyFlat}
 
 -- no more jobs are listed than there are places
 pub few-counted : (d : Desk) (size : ℕ) → length (d .ledger .table .jobs) ≡ mostJobs → countedOf d size .count ≤ mostJobs
@@ -40,6 +41,11 @@ pub asked-mesh-flat-once : (d : Desk) (s : List ℕ) (size number lead : ℕ) (q
     → q ≡ r
 asked-mesh-flat-once d s size number lead q r a b =
     a .flat ∙ ap flatAnswer (asked-mesh-once d s size number lead (a .answer) (b .answer) (a .asked) (b .asked)) ∙ sym (b .flat)
+
+-- and with no date
+pub asked-undated-flat-once : (d : Desk) (number work : ℕ) (q r : Answer) → AskedUndatedFlat d number work q → AskedUndatedFlat d number work r → q ≡ r
+asked-undated-flat-once d number work q r a b =
+    a .flat ∙ ap flatAnswer (asked-undated-once d number work (a .answer) (b .answer) (a .asked) (b .asked)) ∙ sym (b .flat)
 
 -- and of what is told
 pub why-flat-once : (d : Desk) (number work lead : ℕ) (q r : Reason) → WhyFlat d number work lead q → WhyFlat d number work lead r → q ≡ r

@@ -10,6 +10,7 @@ use Rattle.desk.specs.declared.Counted.{Counted}
 use Rattle.questions.specs.declared.Because.{Because}
 use Rattle.answers.specs.Answers.{answerOf, kindOf, nameOf}
 use Rattle.desk.specs.Asking.{Asked}
+use Rattle.desk.specs.Undated.{AskedUndated}
 use Rattle.questions.specs.Meshes.{AskedMesh}
 use Rattle.questions.specs.Whys.{Explained}
 use Rattle.desk_c.specs.declared.Answer.{Answer}
@@ -51,6 +52,12 @@ pub record AskedFlat (d : Desk) (number work lead : ℕ) (r : Answer) : Type 0 w
 pub record AskedMeshFlat (d : Desk) (s : List ℕ) (size number lead : ℕ) (r : Answer) : Type 0 where
   pub answer : answer.Answer
   pub asked : AskedMesh d s size number lead answer
+  pub flat : r ≡ flatAnswer answer
+
+-- the flat form of an answer that asking with no date allows
+pub record AskedUndatedFlat (d : Desk) (number work : ℕ) (r : Answer) : Type 0 where
+  pub answer : answer.Answer
+  pub asked : AskedUndated d number work answer
   pub flat : r ≡ flatAnswer answer
 
 -- what is told of a request: the refusal alone, 6 with the instant, who owes how much and the margin, or 0 with the instant

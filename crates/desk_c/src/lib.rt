@@ -5,9 +5,9 @@ use questions::Because;
 ghost use mathlib.Core.Path.{_≡_};
 ghost use lib.ListN.{length};
 ghost use Rattle.listing.specs.Labels.{labelOf};
-ghost use Rattle.desk.specs.Opening.{openedOf};
+ghost use Rattle.desk.specs.Opening.{openedOf, openedSharedOf};
 ghost use Rattle.desk.specs.Calls.{stepOf, endOf, restOf, countedOf, listedOf, runnerOf};
-ghost use Rattle.desk_c.specs.Flat.{flatAnswer, flatStep, flatCount, flatPart, flatWhy, AskedFlat, AskedMeshFlat, WhyFlat};
+ghost use Rattle.desk_c.specs.Flat.{flatAnswer, flatStep, flatCount, flatPart, flatWhy, AskedFlat, AskedMeshFlat, AskedUndatedFlat, WhyFlat};
 
 // The state that a call hands back, and 0 for yes or the refusal's number.
 #[repr(C)]
@@ -104,6 +104,14 @@ pub extern "C" fn desk_open(list: &[u32], start: u64, charge: u32) -> Answer
     flat_answer(Desk::open(list, start, charge))
 }
 
+// The opening that carries a share p/q for exports with no date.
+#[no_mangle]
+pub extern "C" fn desk_open_shared(list: &[u32], start: u64, charge: u32, p: u32, q: u32) -> Answer
+    ensures { λ r. ⌜ r ≡ flatAnswer (openedSharedOf (now (list .entry)) start charge p q) ⌝ }
+{
+    flat_answer(Desk::open_shared(list, start, charge, p, q))
+}
+
 // Asking for a job.
 #[no_mangle]
 pub extern "C" fn desk_ask(desk: Desk, number: u32, work: u32, lead: u32) -> Answer
@@ -124,6 +132,14 @@ pub extern "C" fn desk_ask_mesh(
     ensures { λ r. ⌜ AskedMeshFlat desk (now (head .entry)) size number lead r ⌝ }
 {
     flat_answer(questions::ask_mesh(desk, head, size, number, lead))
+}
+
+// Asking for a job with no date: the rule gives it its deadline.
+#[no_mangle]
+pub extern "C" fn desk_ask_undated(desk: Desk, number: u32, work: u32) -> Answer
+    ensures { λ r. ⌜ AskedUndatedFlat desk number work r ⌝ }
+{
+    flat_answer(desk.ask_undated(number, work))
 }
 
 // Telling the customer why: what an ask would answer, and what decides it.

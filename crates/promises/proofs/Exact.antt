@@ -8,7 +8,7 @@ use borrow.Author.Tests.{not-false}
 use Rattle.lists.specs.Lists.{Each, Pairs}
 use Rattle.lists.proofs.Lists.{each, each-imp}
 use Rattle.lists.proofs.Pairs.{pairs-of-map}
-use Rattle.ticks.specs.Ticks.{ticks}
+use Rattle.ticks.specs.Ticks.{ticks, instant}
 use Rattle.mesh.specs.Bands.{workOf}
 use Rattle.mesh.specs.Meshes.{trianglesOf, meshLines}
 use Rattle.jobs.specs.declared.Job.{Job}
@@ -33,16 +33,19 @@ use Rattle.ledger.specs.State.{Sized, InOrder}
 use Rattle.ledger.specs.Books.{bookJob, whoIs}
 use Rattle.ledger.proofs.Books.{book-of-rewritten, book-of-rewritten-own, book-in-table-order}
 use Rattle.edf.specs.Reordered.{Reordered}
-use Rattle.ledger.proofs.InOrder.{in-order, state-in-order, state-light}
+use Rattle.ledger.proofs.InOrder.{state-in-order, state-light}
 use Rattle.desk.specs.declared.Desk.{Desk}
 use Rattle.desk.specs.declared.Answer.{Answer}
-use Rattle.desk.specs.State.{book, rewritten}
+use Rattle.desk.specs.State.{book, since, rewritten}
 use Rattle.desk.specs.Calls.{disorder, stepLines, stepOf, runnerOf}
 use Rattle.desk.specs.Asking.{requested, with-job, Judged}
+use Rattle.desk.specs.Undated.{undatedDeadline, undatedLead}
+use Rattle.desk.proofs.InOrder.{in-order}
 use Rattle.desk.proofs.Asking.{admissible, asked-once}
+use Rattle.desk.proofs.Undated.{asked-undated-once}
 use Rattle.desk.proofs.Reachable.{admissible-askable, step-in-table-order}
 use Rattle.questions.specs.Meshes.{AskedMesh}
-use Rattle.promises.specs.Exact.{TakenIfItFits, TakenExactlyIfItFits, AMeshIsTakenExactlyIfItFits, FitsIsRoom, OneAnswer}
+use Rattle.promises.specs.Exact.{TakenIfItFits, deskWith, TakenExactlyIfItFits, AMeshIsTakenExactlyIfItFits, AnUndatedIsTakenExactlyIfItFits, FitsIsRoom, OneAnswer}
 use Rattle.promises.specs.Exact.{NamesTheFirst, served, FeedTurned, StepRule, EveryStepByTheRule, TheLabelIsTheRunners}
 
 -- the desk with the job written into it is read as the book with the job
@@ -50,7 +53,7 @@ with-job-read : (d : Desk) (j : Job) → Reordered (with-job d j) (book (rewritt
 unfolding taking
 with-job-read d j = book-of-rewritten (d .ledger) (with-job d j) (record { positions = refl; plans = refl })
 
-by-fits : (d : Desk) (j : Job) (r : Answer) → Judged d j r → TakenIfItFits d j r
+by-fits : (d : Desk) (j : Job) (r : Answer) → Judged d j r → TakenIfItFits d j (deskWith d j) r
 unfolding Judged
 by-fits d j r (inl y) =
     let said : r .verdict ≡ Yes = ap (λ a. a .verdict) (y .1) in
@@ -79,12 +82,28 @@ pub a-mesh-is-taken-exactly-if-it-fits : AMeshIsTakenExactlyIfItFits
 unfolding AMeshIsTakenExactlyIfItFits
 a-mesh-is-taken-exactly-if-it-fits d s size number lead r a m e = by-fits d (requested d number (workOf (trianglesOf s)) lead) r (a .asked m .judged e)
 
+pub an-undated-is-taken-exactly-if-it-fits : AnUndatedIsTakenExactlyIfItFits
+unfolding AnUndatedIsTakenExactlyIfItFits
+an-undated-is-taken-exactly-if-it-fits d number work r a u e =
+    let (b, k, same) = a .asked u in
+    let j = requested d number work (undatedLead d work) in
+    let t = instant (undatedDeadline d work) in
+    let taken = by-fits d j b (k .judged e) in
+    let alike : r .verdict ≡ b .verdict = ap (λ q. q .verdict) same in
+    let kept : b .verdict ≡ Yes → r .desk ≡ since t (deskWith d j) = λ y. ap (λ q. q .desk) same ∙ ap (λ v. onYes v (since t (b .desk)) (b .desk)) y ∙ ap (since t) (taken .desk y) in
+    record {
+      yes = (λ y. taken .yes .0 (sym alike ∙ y), λ f. alike ∙ taken .yes .1 f);
+      no = (λ n. taken .no .0 (sym alike ∙ n), λ f. alike ∙ taken .no .1 f);
+      has = λ y. subst (λ x. Reordered (with-job d j) (book x)) (sym (kept (sym alike ∙ y))) (with-job-read d j);
+      desk = λ y. kept (sym alike ∙ y);
+    }
+
 pub fits-is-room : FitsIsRoom
 unfolding FitsIsRoom
 fits-is-room d number work lead s e =
     let j = requested d number work lead in
     let a = admissible d number work lead s e in
-    let o = in-order (d .ledger) s (a .order) in
+    let o = in-order d s (a .order) in
     fits-iff-room (with-job d j) (taking-in-order (book d) (bookJob j) (state-in-order (d .ledger) o) (admissible-askable d j a))
     (subst Light (sym (taking-keeps-plans (bookJob j) (book d))) (state-light (d .ledger) o))
 
@@ -96,7 +115,7 @@ mesh-once d s size number lead q r a b = go (firstOf (disorder d ∷ meshLines s
     go (No x) e = a .stopped x e ∙ sym (b .stopped x e)
 
 pub one-answer : OneAnswer
-one-answer = record { ask = asked-once; mesh = mesh-once }
+one-answer = record { ask = asked-once; mesh = mesh-once; undated = asked-undated-once }
 
 -- all that is ready goes after the one that is named
 ties : (b : Book) → Chosen b (runner b) ⊎ NothingReady b (runner b) → Each (λ q. 1 ≤ q .owes → GoesBefore (runner b) q) (atHand b)
@@ -111,7 +130,7 @@ turns x fs =
 -- a desk that lines 13 and 3 let pass
 module _ (d : Desk) (s : Sized (d .ledger)) (e : firstOf (stepLines d) ≡ Yes) where
   pub steps-in-order : InOrder (d .ledger)
-  steps-in-order = in-order (d .ledger) s (not-false _ (yes-first (disorder d) _ e .0))
+  steps-in-order = in-order d s (not-false _ (yes-first (disorder d) _ e .0))
 
   -- what it hands back, and how that is read
   pub step-hands-back : stepOf d .desk ≡ rewritten d (step (book d))

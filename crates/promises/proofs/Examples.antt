@@ -8,10 +8,10 @@ use native.Mathlib.Omega.{arith}
 use native.Mathlib.Decide.{decLt, ℕ-discrete}
 use lib.Dec.{leb, eqb}
 use borrow.Author.Tests.{eqb-true}
-use Rattle.lists.specs.Lists.{every, allOf, Each}
+use Rattle.lists.specs.Lists.{eq, every, allOf, Each}
 use Rattle.lists.proofs.Tests.{false-not-true, leb-elim, both}
 use Rattle.lists.proofs.Places.{each-of-every}
-use Rattle.ticks.specs.Ticks.{ticks}
+use Rattle.ticks.specs.Ticks.{ticks, instant}
 use Rattle.plans.specs.Plans as plans
 use Rattle.feeds.specs.Feeds.{unusedFeed}
 use Rattle.feeds.specs.Round.{firstFrom, roundOf, carries}
@@ -44,12 +44,22 @@ use Rattle.room.proofs.Walk.{fits-says}
 use Rattle.desk.specs.declared.Desk.{Desk}
 use Rattle.desk.specs.declared.Answer.{Answer}
 use Rattle.desk.specs.State.{rewritten, Good}
-use Rattle.desk.specs.Opening.{openedOf}
-use Rattle.desk.specs.Calls.{disorder, restOf}
-use Rattle.desk.specs.Asking.{requestLines, placeLines, requested, with-job, Admissible, Judged, Asked}
+use Rattle.edf.specs.Share.{deadlineAt, atShare}
+use Rattle.edf.specs.Step.{step, stepBy, serve, turn, turned, runner, foremost, first, sooner, goesBefore}
+use Rattle.edf.specs.Book.{same}
+use Rattle.jobs.specs.Figures.{owesBy}
+use Rattle.jobs.specs.Jobs.{jobIn}
+use Rattle.edf.specs.Calls.{ending}
+use Rattle.desk.specs.Opening.{shareLine, openedOf, openedSharedOf}
+use Rattle.desk.specs.Undated.{undatedLines, undatedDeadline, undatedLead, remembering, AskedUndated}
+use Rattle.desk.specs.State as desk
+use Rattle.desk.specs.Calls.{disorder, stepOf, endOf, restOf}
+use Rattle.desk.specs.Asking.{numberLine, requestLines, placeLines, requested, with-job, Admissible, Judged, Asked}
 use Rattle.desk.proofs.Asking.{admissible, taken-in-order, taken-book}
-use Rattle.desk.proofs.Good.{opening-is-good, rest-is-good, ask-is-good}
-use Rattle.promises.specs.Examples.{Said, asks, rests, Row, Then, Goes, Holds, table}
+use Rattle.desk.proofs.Good.{step-is-good, end-is-good, rest-is-good, ask-is-good, undated-is-good}
+use Rattle.promises.specs.Runs.{Opening, answerTo}
+use Rattle.promises.specs.Examples.{Said, asks, undated, steps, ends, rests, Row, Then, answerOfStep, Goes, Holds, table, undatedTable}
+use Rattle.promises.proofs.Openings.{opening-good}
 
 -- by every instant below H there is time for what is owed; no instant is looked at below one that fails
 unfoldable enough : ℕ → Book → Bool
@@ -134,6 +144,32 @@ module _ (d : Desk) (number work lead : ℕ) where
           ∙ sym (ap answering (goes-past lines (sixth fitting) e))
       go (No x) e = a .stopped x (in-order (No x) e) ∙ sym (ap answering (stops-before lines (sixth fitting) x e))
 
+-- an ask with no date, as it can be computed: line 1 or 19, then the ask with the lead of the rule
+abbrev stoppedOr : Verdict → Desk → Answer → Answer
+stoppedOr Yes d a = a
+stoppedOr (No x) d a = record { desk = d; verdict = No x }
+
+module _ (d : Desk) (number work : ℕ) where
+  abbrev own : List Line
+  own = numberLine number ∷ shareLine (d .share) ∷ []
+
+  unfoldable asking-undated : Answer
+  asking-undated = stoppedOr (firstOf own) d (remembering (instant (undatedDeadline d work)) (asking d number work (undatedLead d work)))
+
+  undated-is : (r : Answer) → Good d → AskedUndated d number work r → r ≡ asking-undated
+  unfolding asking-undated
+  undated-is r g a = go (firstOf own) refl
+    where
+      past : (v : Verdict) → firstOf own ≡ v → firstOf (undatedLines d number) ≡ v
+      past v e = goes-on (disorder d) own v (ap not (g .order)) e
+
+      go : (v : Verdict) → firstOf own ≡ v → r ≡ stoppedOr (firstOf own) d (remembering (instant (undatedDeadline d work)) (asking d number work (undatedLead d work)))
+      go Yes e =
+          let (b, k, same) = a .asked (past Yes e) in
+          same ∙ ap (remembering (instant (undatedDeadline d work))) (asked-is d number work (undatedLead d work) b g k)
+          ∙ sym (ap (λ v. stoppedOr v d (remembering (instant (undatedDeadline d work)) (asking d number work (undatedLead d work)))) e)
+      go (No x) e = a .stopped x (past (No x) e) ∙ sym (ap (λ v. stoppedOr v d (remembering (instant (undatedDeadline d work)) (asking d number work (undatedLead d work)))) e)
+
 -- the answer is this number, and what comes next passes on the state that is handed back
 unfoldable then : ℕ → (Desk → Bool) → Answer → Bool
 then answer next r = eqb (answerOf (r .verdict)) answer && next (r .desk)
@@ -147,6 +183,9 @@ then-says answer next Next r e h = let t = both (eqb (answerOf (r .verdict)) ans
 unfoldable pass : List Said → Desk → Bool
 pass [] d = true
 pass (asks number work lead answer ∷ cs) d = then answer (pass cs) (asking d number work lead)
+pass (undated number work answer ∷ cs) d = then answer (pass cs) (asking-undated d number work)
+pass (steps answer ∷ cs) d = then answer (pass cs) (answerOfStep (stepOf d))
+pass (ends number answer ∷ cs) d = then answer (pass cs) (endOf d number)
 pass (rests position answer ∷ cs) d = then answer (pass cs) (restOf d position)
 
 pass-goes : (cs : List Said) (d : Desk) → Good d → pass cs d ≡ true → Goes cs d
@@ -155,23 +194,39 @@ pass-goes [] d g e = tt
 pass-goes (asks number work lead answer ∷ cs) d g e = λ r a.
     then-says answer (pass cs) (Goes cs) r (ap (then answer (pass cs)) (asked-is d number work lead r g a) ∙ e)
     (pass-goes cs (r .desk) (ask-is-good d g number work lead r a))
+pass-goes (undated number work answer ∷ cs) d g e = λ r a.
+    then-says answer (pass cs) (Goes cs) r (ap (then answer (pass cs)) (undated-is d number work r g a) ∙ e)
+    (pass-goes cs (r .desk) (undated-is-good d number work r a g))
+pass-goes (steps answer ∷ cs) d g e = then-says answer (pass cs) (Goes cs) (answerOfStep (stepOf d)) e (pass-goes cs (stepOf d .desk) (step-is-good d g))
+pass-goes (ends number answer ∷ cs) d g e = then-says answer (pass cs) (Goes cs) (endOf d number) e (pass-goes cs (endOf d number .desk) (end-is-good d g number))
 pass-goes (rests position answer ∷ cs) d g e =
     then-says answer (pass cs) (Goes cs) (restOf d position) e (pass-goes cs (restOf d position .desk) (rest-is-good d g position))
 
+-- the opening of a row
+abbrev opening : Row → Opening
+opening r = record { feeds = r .feeds; start = r .start; charge = r .charge; carried = r .carried }
+
 -- THE TEST of a row
 unfoldable tested : Row → Bool
-tested r = then (r .opens) (pass (r .calls)) (openedOf (r .feeds) 0 (r .charge))
+tested r = then (r .opens) (pass (r .calls)) (answerTo (opening r))
 
 -- THE ONE LAW: a row that passes the test holds
 tested-holds : (r : Row) → tested r ≡ true → Holds r
 unfolding tested Holds
 tested-holds r e =
-    let o = openedOf (r .feeds) 0 (r .charge) in
-    then-says (r .opens) (pass (r .calls)) (Goes (r .calls)) o e (pass-goes (r .calls) (o .desk) (opening-is-good (r .feeds) 0 (r .charge)))
+    let o = answerTo (opening r) in
+    then-says (r .opens) (pass (r .calls)) (Goes (r .calls)) o e (pass-goes (r .calls) (o .desk) (opening-good (opening r)))
 
 -- THE TABLE HOLDS: every row passes, computed from the definitions alone
 pub the-table-holds : Each Holds table
 unfolding every tested openedOf feedsIn firstOf allOf plans.planIn roundOf firstFrom carries then pass asking opened edf.since
     inOrder feedsPass passes unusedFeed plans.unusedPlan pieceIn tableIn lacks distinct unusedJob
-    enough before rising insert sorted horizonOf lastDue latestOf plans.next plans.since owedBy byThen taking resting restOf
+    enough before rising insert sorted horizonOf lastDue latestOf plans.next plans.since owedBy byThen taking resting restOf desk.inOrder
 the-table-holds = each-of-every tested Holds tested-holds table refl
+
+pub the-undated-table-holds : Each Holds undatedTable
+unfolding every tested openedOf openedSharedOf feedsIn firstOf allOf plans.planIn roundOf firstFrom carries then pass asking asking-undated deadlineAt atShare opened edf.since
+    inOrder desk.inOrder feedsPass passes unusedFeed plans.unusedPlan pieceIn tableIn jobIn lacks distinct unusedJob
+    enough before rising insert sorted horizonOf lastDue latestOf plans.next plans.since owedBy byThen owesBy taking ending
+    stepOf endOf step stepBy serve turn turned runner foremost first sooner goesBefore same eq
+the-undated-table-holds = each-of-every tested Holds tested-holds undatedTable refl

@@ -4,7 +4,7 @@ use mathlib.Core.Logic.{inl, inr}
 use mathlib.Core.Bool.{Bool, true, false, not}
 use mathlib.Core.List.{List, _∷_, _++_, map}
 use Prim.Native.Nat.{ℕ, _*_}
-use lib.ListN.{length, drop}
+use lib.ListN.{drop}
 use borrow.Author.Tests.{not-false}
 use Rattle.ticks.specs.Ticks.{ticks}
 use Rattle.mesh.specs.Bands.{workOf}
@@ -26,28 +26,30 @@ use Rattle.edf.specs.Book.{Book}
 use Rattle.edf.specs.Step as edf
 use Rattle.edf.specs.Calls.{ending, resting}
 use Rattle.edf.proofs.Runs.{run-is-good}
-use Rattle.ledger.specs.State.{Sized, inOrder}
+use Rattle.ledger.specs.State.{Sized}
 use Rattle.ledger.specs.Books.{jobOf}
-use Rattle.ledger.proofs.InOrder.{in-order}
 use Rattle.desk.specs.declared.Desk.{Desk}
 use Rattle.desk.specs.declared.Answer.{Answer}
-use Rattle.desk.specs.State.{book, rewritten}
-use Rattle.desk.specs.Calls.{disorder, stepLines, stepOf, endLines, endOf, restLines, restOf, listLines, countedOf, listedOf}
+use Rattle.desk.specs.State.{book, rewritten, inOrder}
+use Rattle.desk.specs.Calls.{disorder, stepLines, stepOf, endLines, endOf, restLines, restOf, countedOf, listedOf}
 use Rattle.desk.specs.Asking.{askLines, requested, with-job, Judged, Asked}
-use Rattle.desk.proofs.Good.{opening-is-good}
+use Rattle.desk.specs.Undated.{AskedUndated, undatedLead}
+use Rattle.desk.proofs.InOrder.{in-order}
+use Rattle.desk.proofs.Undated.{undated-yes}
 use Rattle.questions.specs.Meshes.{AskedMesh}
 use Rattle.promises.specs.Runs.{opened}
 use Rattle.promises.specs.Figures.{TrueFigures, EveryFigureIsTheSum, TakenCallsKeepFigures, AWrongFigureGets13, TheListShowsTheSums}
 use Rattle.promises.proofs.System.{desks}
+use Rattle.promises.proofs.Openings.{opening-good}
 
 -- a state in order has true figures
-ordered-true : (d : Desk) → Sized (d .ledger) → inOrder (d .ledger) ≡ true → TrueFigures d
-ordered-true d s e = in-order (d .ledger) s e .jobs .figures
+ordered-true : (d : Desk) → Sized (d .ledger) → inOrder d ≡ true → TrueFigures d
+ordered-true d s e = in-order d s e .jobs .figures
 
 pub every-figure-is-the-sum : EveryFigureIsTheSum
 unfolding EveryFigureIsTheSum
 every-figure-is-the-sum o cs m =
-    let g = run-is-good desks cs (opened o) (opening-is-good (o .feeds) (o .start) (o .charge)) m in
+    let g = run-is-good desks cs (opened o) (opening-good o) m in
     ordered-true _ (g .sized) (g .order)
 
 -- a state that a book was written into has true figures, whatever the book
@@ -78,12 +80,18 @@ mesh-true d s size number lead r a y = go (firstOf (disorder d ∷ meshLines s s
     go Yes e = ask-true d number (workOf (trianglesOf s)) lead r (a .asked e) y
     go (No x) e = absurd (yes-is-not-no x (sym y ∙ ap (λ q. q .verdict) (a .stopped x e)))
 
+undated-true : (d : Desk) (number work : ℕ) (r : Answer) → AskedUndated d number work r → r .verdict ≡ Yes → TrueFigures (r .desk)
+undated-true d number work r a y =
+    let (b, k, said, same, s) = undated-yes d number work r a y in
+    subst TrueFigures (sym same) (ask-true d number work (undatedLead d work) b k said)
+
 pub taken-calls-keep-figures : TakenCallsKeepFigures
 unfolding stepOf endOf restOf
 taken-calls-keep-figures =
     record {
       ask = ask-true;
       mesh = mesh-true;
+      undated = undated-true;
       step = λ d e. either-true (firstOf (stepLines d)) d (edf.step (book d)) e;
       end = λ d n e. either-true (firstOf (endLines d n)) d (ending n (book d)) e;
       rest = λ d p e. either-true (firstOf (restLines d p)) d (resting p (book d)) e;
@@ -91,9 +99,9 @@ taken-calls-keep-figures =
 
 pub a-wrong-figure-gets-13 : AWrongFigureGets13
 unfolding AWrongFigureGets13
-a-wrong-figure-gets-13 d s wrong ls = stops (disorder d) ls (ap not (go (inOrder (d .ledger)) refl))
+a-wrong-figure-gets-13 d s wrong ls = stops (disorder d) ls (ap not (go (inOrder d) refl))
   where
-    go : (b : Bool) → inOrder (d .ledger) ≡ b → inOrder (d .ledger) ≡ false
+    go : (b : Bool) → inOrder d ≡ b → inOrder d ≡ false
     go true e = absurd (wrong (ordered-true d s e))
     go false e = e
 
@@ -101,7 +109,7 @@ pub the-list-shows-the-sums : TheListShowsTheSums
 unfolding TheListShowsTheSums countedOf listedOf
 the-list-shows-the-sums d buffer s e =
     let js = live (d .ledger .table) in
-    let fine = not-false (inOrder (d .ledger)) (yes-first (disorder d) _ e .0) in
-    let o = in-order (d .ledger) s fine .jobs in
+    let fine = not-false (inOrder d) (yes-first (disorder d) _ e .0) in
+    let o = in-order d s fine .jobs in
     ap (λ v. onYes v (words js ++ drop (numbersAJob * d .ledger .table .count) buffer) buffer) e
     ∙ ap (λ l. words l ++ drop (numbersAJob * d .ledger .table .count) buffer) (sym (ap figured (sorted-own js (o .order)) ∙ figured-own js (o .figures)))

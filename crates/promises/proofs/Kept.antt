@@ -4,67 +4,80 @@ use mathlib.Core.Logic.{_⊎_, inl, inr}
 use mathlib.Core.List.{List, [], _∷_, _++_}
 use Prim.Native.Nat.{ℕ, _+_, _≤_}
 use native.Mathlib.Omega.{arith}
-use Rattle.ticks.specs.Ticks.{instant, ticks}
+use Rattle.ticks.specs.Ticks.{ticks}
 use Rattle.feeds.specs.Lines.{feedsIn}
 use Rattle.mesh.specs.Bands.{workOf}
 use Rattle.mesh.specs.Meshes.{trianglesOf, meshLines}
 use Rattle.answers.specs.declared.Verdict.{Verdict}
 use Rattle.answers.specs.declared.Verdict.the-variants.{Yes, No}
-use Rattle.answers.specs.Answers.{firstOf, onYes}
+use Rattle.answers.specs.Answers.{firstOf}
 use Rattle.answers.proofs.Answers.{yes-is-not-no}
-use Rattle.edf.specs.Book.{Book, job, feed}
+use Rattle.edf.specs.Book.{job}
 use Rattle.edf.specs.Runs.{Did, after, Allowed, named}
 use Rattle.edf.specs.Kept as edf
-use Rattle.edf.specs.Load as load
 use Rattle.edf.proofs.Runs.{allowed-append, run-is-good}
+use Rattle.edf.specs.Reordered.{Reordered}
 use Rattle.edf.proofs.Reordered.{reordered-live}
-use Rattle.edf.proofs.Kept.{job-is-kept, piece-is-kept}
+use Rattle.edf.proofs.Kept.{job-is-kept}
 use Rattle.edf.proofs.Promises as edfPromises
 use Rattle.edf.proofs.Service.{Has}
 use Rattle.ledger.specs.Books.{bookFeeds, bookJob}
 use Rattle.desk.specs.declared.Desk.{Desk}
 use Rattle.desk.specs.declared.Answer.{Answer}
-use Rattle.desk.specs.State.{book, empty, Good}
-use Rattle.desk.specs.Opening.{openLines, openedDesk, openedOf}
+use Rattle.desk.specs.State.{book, Good}
 use Rattle.desk.specs.Calls.{disorder}
-use Rattle.desk.specs.Asking.{requested, Asked}
+use Rattle.desk.specs.Asking.{requested, with-job, Asked}
+use Rattle.desk.specs.Undated.{undatedLead}
 use Rattle.questions.specs.Meshes.{AskedMesh}
-use Rattle.desk.proofs.Reachable.{opened-book}
-use Rattle.desk.proofs.Good.{opening-is-good, ask-is-good, ask-book}
-use Rattle.promises.specs.Runs.{Call, Calls, Made, allows, Ends, Rests, Opening, answerTo, opened, chargeOf, asked, askedMesh}
-use Rattle.promises.specs.Kept.{EveryStateIsInOrder, EveryYesIsKept, EveryMeshYesIsKept, DoneByItsDeadline, EveryPieceIsKept, EveryOpenedPieceIsKept}
-use Rattle.promises.specs.Kept.{ServedByItsDeadline, EveryReportIsRight, EveryMeshReportIsRight, EveryPieceReportIsRight, EveryOpenedPieceReportIsRight, JobKept, Over}
+use Rattle.desk.proofs.Undated.{undated-due}
+use Rattle.desk.proofs.Good.{ask-is-good, ask-book, undated-is-good, undated-book}
+use Rattle.promises.specs.Runs.{Call, Calls, Made, allows, Opening, opened, chargeOf, asked, askedMesh, askedUndated}
+use Rattle.promises.specs.Kept.{EveryStateIsInOrder, EveryYesIsKept, EveryMeshYesIsKept, EveryUndatedYesIsKept, DoneByItsDeadline, EveryPieceIsKept, EveryOpenedPieceIsKept}
+use Rattle.promises.specs.Kept.{ServedByItsDeadline, EveryReportIsRight, EveryMeshReportIsRight, EveryUndatedReportIsRight, EveryPieceReportIsRight, EveryOpenedPieceReportIsRight, JobKept, Over}
 use Rattle.promises.proofs.System.{desks}
-use Rattle.promises.proofs.Charge.{calls-keep-charge}
+use Rattle.promises.proofs.Openings.{opening-good, opening-book}
+use Rattle.promises.proofs.Stays.{calls-keep-charge}
 
 pub every-state-is-in-order : EveryStateIsInOrder
 unfolding EveryStateIsInOrder
 every-state-is-in-order o cs m =
-    let g = run-is-good desks cs (opened o) (opening-is-good (o .feeds) (o .start) (o .charge)) m in
+    let g = run-is-good desks cs (opened o) (opening-good o) m in
     (g .order, g .sound)
 
+-- either the first, as told of it, or the second
+report : {A B X : Type 0} → A ⊎ B → (A → X) → X ⊎ B
+report (inl k) f = inl (f k)
+report (inr k) f = inr k
+
+-- what is told of a job by the step x, or that it was over before
+abbrev Told : ℕ → ℕ → Calls → Did Call Desk → Desk → ℕ → Type 0
+Told number due since-then x d work =
+    (x .came .owes + named (job number) (since-then ++ (x ∷ [])) ≡ work) ⊎ Over number due work since-then d
+
 -- what an ask that was made and answered yes leaves: a good desk with the job live
-module _ (d : Desk) (g : Good d) (number work lead : ℕ) (r : Answer) (a : Asked d number work lead r) (y : r .verdict ≡ Yes) where
+module _ (d : Desk) (number work lead : ℕ) (e : Desk) (g : Good e) (has : Reordered (with-job d (requested d number work lead)) (book e)) where
   -- its charged work
   abbrev owed : ℕ
   owed = work + d .ledger .charge .0
 
-  asked-live : edf.Live number (d .ledger .clock .0 + lead) owed (book (r .desk))
-  asked-live = reordered-live _ _ (ask-book d g number work lead r a y) number (d .ledger .clock .0 + lead) owed (edfPromises.taken-is-live (book d) (bookJob (requested d number work lead)))
+  asked-live : edf.Live number (d .ledger .clock .0 + lead) owed (book e)
+  asked-live = reordered-live _ _ has number (d .ledger .clock .0 + lead) owed (edfPromises.taken-is-live (book d) (bookJob (requested d number work lead)))
 
-  asked-kept : (later : Calls) → Made later (r .desk) → JobKept number (d .ledger .clock .0 + lead) owed later (r .desk)
-  asked-kept later m = job-is-kept desks later (r .desk) number (d .ledger .clock .0 + lead) owed (ask-is-good d g number work lead r a) m asked-live
+  asked-kept : (later : Calls) → Made later e → JobKept number (d .ledger .clock .0 + lead) (work + d .ledger .charge .0) later e
+  asked-kept later m = job-is-kept desks later e number (d .ledger .clock .0 + lead) owed g m asked-live
+
+  -- what an answer tells of the job, or it was over before
+  asked-reported : (since-then : Calls) (x : Did Call Desk) (later : Calls) → Made (since-then ++ (x ∷ later)) e
+      → x .came .who ≡ job number → 1 ≤ x .came .ticks → Told number (d .ledger .clock .0 + lead) since-then x e (work + d .ledger .charge .0)
+  asked-reported since-then x later m w h =
+      let right = edfPromises.a-job's-report-is-right desks e g since-then x later m number (d .ledger .clock .0 + lead) owed in
+      report (asked-kept since-then (allowed-append allows since-then (x ∷ later) e m .0)) (λ k. right k w h)
 
 -- calls put together again
 made-of : (before : Calls) (x : Did Call Desk) (later : Calls) (d : Desk) → Made before d → allows (x .call) (after before d) (x .came) → Made later (x .came .state) → Made (before ++ (x ∷ later)) d
 unfolding after Allowed
 made-of [] x later d m a l = (a, l)
 made-of (b ∷ before) x later d m a l = (m .0, made-of before x later (b .came .state) (m .1) a l)
-
--- either the first, as told of it, or the second
-report : {A B X : Type 0} → A ⊎ B → (A → X) → X ⊎ B
-report (inl k) f = inl (f k)
-report (inr k) f = inr k
 
 -- an ask with a mesh that is answered yes is an ordinary ask with the work of its band
 mesh-yes-is-asked : (d : Desk) (s : List ℕ) (size number lead : ℕ) (r : Answer) → AskedMesh d s size number lead r → r .verdict ≡ Yes
@@ -81,7 +94,7 @@ module _ (o : Opening) (before : Calls) (x : Did Call Desk) (later : Calls) (m :
   parts = allowed-append allows before (x ∷ later) (opened o) m
 
   good-before : Good (after before (opened o))
-  good-before = run-is-good desks before (opened o) (opening-is-good (o .feeds) (o .start) (o .charge)) (parts .0)
+  good-before = run-is-good desks before (opened o) (opening-good o) (parts .0)
 
   charge-before : after before (opened o) .ledger .charge .0 ≡ chargeOf o
   charge-before = ap (λ l. l .0) (calls-keep-charge before (opened o) (parts .0))
@@ -92,8 +105,9 @@ every-yes-is-kept o before number work lead r later m y =
     let p = parts o before (asked number work lead r) later m in
     let d = after before (opened o) in
     let x = asked number work lead r in
+    let g = good-before o before x later m in
     subst (λ c. JobKept number (d .ledger .clock .0 + lead) (work + c) later (r .desk)) (charge-before o before x later m)
-    (asked-kept d (good-before o before x later m) number work lead r (p .1 .0 .0) y later (p .1 .1))
+    (asked-kept d number work lead (r .desk) (ask-is-good d g number work lead r (p .1 .0 .0)) (ask-book d g number work lead r (p .1 .0 .0) y) later (p .1 .1))
 
 pub every-mesh-yes-is-kept : EveryMeshYesIsKept
 unfolding EveryMeshYesIsKept Allowed allows
@@ -101,46 +115,39 @@ every-mesh-yes-is-kept o before s size number lead r later m y =
     let p = parts o before (askedMesh s size number lead r) later m in
     let d = after before (opened o) in
     let x = askedMesh s size number lead r in
+    let g = good-before o before x later m in
     let work = workOf (trianglesOf s) in
     let a = mesh-yes-is-asked d s size number lead r (p .1 .0 .0) y in
     subst (λ c. JobKept number (d .ledger .clock .0 + lead) (work + c) later (r .desk)) (charge-before o before x later m)
-    (asked-kept d (good-before o before x later m) number work lead r a y later (p .1 .1))
+    (asked-kept d number work lead (r .desk) (ask-is-good d g number work lead r a) (ask-book d g number work lead r a y) later (p .1 .1))
+
+pub every-undated-yes-is-kept : EveryUndatedYesIsKept
+unfolding EveryUndatedYesIsKept Allowed allows
+every-undated-yes-is-kept o before number work r later m y =
+    let x = askedUndated number work r in
+    let p = parts o before x later m in
+    let d = after before (opened o) in
+    let g = good-before o before x later m in
+    let a = p .1 .0 .0 in
+    subst (λ t. JobKept number t (work + chargeOf o) later (r .desk)) (undated-due d work)
+    (subst (λ c. JobKept number (d .ledger .clock .0 + undatedLead d work) (work + c) later (r .desk)) (charge-before o before x later m)
+    (asked-kept d number work (undatedLead d work) (r .desk) (undated-is-good d number work r a g) (undated-book d number work r a g y) later (p .1 .1)))
 
 pub done-by-its-deadline : DoneByItsDeadline
 unfolding DoneByItsDeadline
 done-by-its-deadline n due work cs d (inl k) h = absurd (omega (arith, k .ahead))
 done-by-its-deadline n due work cs d (inr k) h = k
 
--- an opening that is not refused, read as a book
-opening-book : (o : Opening) → answerTo o .verdict ≡ Yes → book (opened o) ≡ load.opened (o .start) (bookFeeds (ticks (o .charge)) 1 (feedsIn (o .feeds)))
-unfolding openedOf
-opening-book o y = ap (λ v. book (onYes v (openedDesk (feedsIn (o .feeds)) (ticks (o .charge)) (instant (o .start))) empty)) y
-    ∙ opened-book (feedsIn (o .feeds)) (ticks (o .charge)) (instant (o .start))
-
 pub every-piece-is-kept : EveryPieceIsKept
 unfolding EveryPieceIsKept
 every-piece-is-kept o y f lent before x later m t z =
     let has = subst (Has f) (sym (opening-book o y)) (edfPromises.opening-has (o .start) (bookFeeds (ticks (o .charge)) 1 (feedsIn (o .feeds))) f lent) in
-    edfPromises.a-released-piece-is-kept desks (opened o) (opening-is-good (o .feeds) (o .start) (o .charge)) before x later f has m t z
+    edfPromises.a-released-piece-is-kept desks (opened o) (opening-good o) before x later f has m t z
 
 pub every-opened-piece-is-kept : EveryOpenedPieceIsKept
 unfolding EveryOpenedPieceIsKept
 every-opened-piece-is-kept o y f lent z later m =
-    edfPromises.an-opened-piece-is-kept desks (opened o) (opening-is-good (o .feeds) (o .start) (o .charge)) (o .start) (bookFeeds (ticks (o .charge)) 1 (feedsIn (o .feeds))) f lent (opening-book o y) z later m
-
--- what an answer tells of a job that was asked for and taken, or it was over before
-asked-reported : (d : Desk) → Good d → (number work lead : ℕ) (r : Answer) → Asked d number work lead r → r .verdict ≡ Yes
-    → (since-then : Calls) (x : Did Call Desk) (later : Calls) → Made (since-then ++ (x ∷ later)) (r .desk)
-    → x .came .who ≡ job number → 1 ≤ x .came .ticks
-    → (x .came .owes + named (job number) (since-then ++ (x ∷ [])) ≡ work + d .ledger .charge .0) ⊎ Over number (d .ledger .clock .0 + lead) (work + d .ledger .charge .0) since-then (r .desk)
-asked-reported d g number work lead r a y since-then x later m w h =
-    let right = edfPromises.a-job's-report-is-right desks (r .desk) (ask-is-good d g number work lead r a) since-then x later m number (d .ledger .clock .0 + lead) (work + d .ledger .charge .0) in
-    report (asked-kept d g number work lead r a y since-then (allowed-append allows since-then (x ∷ later) (r .desk) m .0)) (λ k. right k w h)
-
--- what is told of a job by the step x, or that it was over before
-abbrev Told : ℕ → ℕ → Calls → Did Call Desk → Desk → ℕ → Type 0
-Told number due since-then x d work =
-    (x .came .owes + named (job number) (since-then ++ (x ∷ [])) ≡ work) ⊎ Over number due work since-then d
+    edfPromises.an-opened-piece-is-kept desks (opened o) (opening-good o) (o .start) (bookFeeds (ticks (o .charge)) 1 (feedsIn (o .feeds))) f lent (opening-book o y) z later m
 
 pub every-report-is-right : EveryReportIsRight
 unfolding EveryReportIsRight Allowed allows
@@ -150,7 +157,7 @@ every-report-is-right o before number work lead r since-then x later m y w h =
     let p = parts o before a (since-then ++ (x ∷ later)) m in
     let g = good-before o before a (since-then ++ (x ∷ later)) m in
     subst (λ c. Told number (d .ledger .clock .0 + lead) since-then x (r .desk) (work + c)) (charge-before o before a (since-then ++ (x ∷ later)) m)
-    (asked-reported d g number work lead r (p .1 .0 .0) y since-then x later (p .1 .1) w h)
+    (asked-reported d number work lead (r .desk) (ask-is-good d g number work lead r (p .1 .0 .0)) (ask-book d g number work lead r (p .1 .0 .0) y) since-then x later (p .1 .1) w h)
 
 pub every-mesh-report-is-right : EveryMeshReportIsRight
 unfolding EveryMeshReportIsRight Allowed allows
@@ -160,8 +167,21 @@ every-mesh-report-is-right o before s size number lead r since-then x later m y 
     let p = parts o before a (since-then ++ (x ∷ later)) m in
     let g = good-before o before a (since-then ++ (x ∷ later)) m in
     let work = workOf (trianglesOf s) in
+    let k = mesh-yes-is-asked d s size number lead r (p .1 .0 .0) y in
     subst (λ c. Told number (d .ledger .clock .0 + lead) since-then x (r .desk) (work + c)) (charge-before o before a (since-then ++ (x ∷ later)) m)
-    (asked-reported d g number work lead r (mesh-yes-is-asked d s size number lead r (p .1 .0 .0) y) y since-then x later (p .1 .1) w h)
+    (asked-reported d number work lead (r .desk) (ask-is-good d g number work lead r k) (ask-book d g number work lead r k y) since-then x later (p .1 .1) w h)
+
+pub every-undated-report-is-right : EveryUndatedReportIsRight
+unfolding EveryUndatedReportIsRight Allowed allows
+every-undated-report-is-right o before number work r since-then x later m y w h =
+    let d = after before (opened o) in
+    let k = askedUndated number work r in
+    let p = parts o before k (since-then ++ (x ∷ later)) m in
+    let g = good-before o before k (since-then ++ (x ∷ later)) m in
+    let a = p .1 .0 .0 in
+    subst (λ t. Told number t since-then x (r .desk) (work + chargeOf o)) (undated-due d work)
+    (subst (λ c. Told number (d .ledger .clock .0 + undatedLead d work) since-then x (r .desk) (work + c)) (charge-before o before k (since-then ++ (x ∷ later)) m)
+    (asked-reported d number work (undatedLead d work) (r .desk) (undated-is-good d number work r a g) (undated-book d number work r a g y) since-then x later (p .1 .1) w h))
 
 pub served-by-its-deadline : ServedByItsDeadline
 unfolding ServedByItsDeadline
@@ -185,5 +205,5 @@ pub every-opened-piece-report-is-right : EveryOpenedPieceReportIsRight
 unfolding EveryOpenedPieceReportIsRight EveryOpenedPieceIsKept
 every-opened-piece-report-is-right o y f lent z since-then x later m w h =
     let d = opened o in
-    let right = edfPromises.a-piece's-report-is-right desks d (opening-is-good (o .feeds) (o .start) (o .charge)) since-then x later m (f .position) (o .start + f .plan .lead) (f .plan .work) in
+    let right = edfPromises.a-piece's-report-is-right desks d (opening-good o) since-then x later m (f .position) (o .start + f .plan .lead) (f .plan .work) in
     report (every-opened-piece-is-kept o y f lent z since-then (allowed-append allows since-then (x ∷ later) d m .0)) (λ k. right k w h)

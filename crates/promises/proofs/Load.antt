@@ -10,7 +10,7 @@ use borrow.Author.Tests.{not-false, leb-false, lt-leb}
 use Rattle.lists.specs.Lists.{eq, total, Some, Pairs}
 use Rattle.lists.proofs.Lists.{each-imp, each-map, some-imp, some-map, total-map}
 use Rattle.ticks.specs.declared.Length.{Length}
-use Rattle.ticks.specs.Ticks.{ticks, instant}
+use Rattle.ticks.specs.Ticks.{ticks}
 use Rattle.mesh.specs.Bands.{workOf}
 use Rattle.mesh.specs.Meshes.{trianglesOf, meshLines}
 use Rattle.feeds.specs.declared.Feed.{Feed}
@@ -22,7 +22,7 @@ use Rattle.jobs.proofs.Numbers.{lacks-times, times-lacks}
 use Rattle.jobs.proofs.Places.{live-count}
 use Rattle.answers.specs.declared.Verdict.{Verdict}
 use Rattle.answers.specs.declared.Verdict.the-variants.{Yes, No}
-use Rattle.answers.specs.Answers.{firstOf, onYes}
+use Rattle.answers.specs.Answers.{firstOf}
 use Rattle.answers.proofs.Answers.{goes-on, goes-past, no-line, yes-first, yes-both, yes-is-not-no}
 use Rattle.edf.specs.Book as edf
 use Rattle.edf.specs.Fits.{Fits}
@@ -34,24 +34,23 @@ use Rattle.edf.proofs.Runs.{run-is-good, run-keeps-plans}
 use Rattle.ledger.specs.Books.{bookPlan, bookFeeds, bookJob}
 use Rattle.desk.specs.declared.Desk.{Desk}
 use Rattle.desk.specs.declared.Answer.{Answer}
-use Rattle.desk.specs.State.{book, empty, Good}
-use Rattle.desk.specs.Opening.{openLines, openedDesk, openedOf}
+use Rattle.desk.specs.State.{book, Good}
 use Rattle.desk.specs.Calls.{disorder}
 use Rattle.desk.specs.Asking.{requestLines, placeLines, askLines, requested, with-job, Judged, Asked}
 use Rattle.desk.proofs.Asking.{admissible, said-yes}
-use Rattle.desk.proofs.Reachable.{good-order, opened-book}
-use Rattle.desk.proofs.Good.{opening-is-good}
+use Rattle.desk.proofs.Reachable.{good-order}
 use Rattle.questions.specs.Meshes.{AskedMesh}
-use Rattle.promises.specs.Runs.{Opening, opened}
+use Rattle.promises.specs.Runs.{Opening, answerTo, opened}
 use Rattle.promises.specs.Load.{Reached, JobNoMore, OwesNoMore, LessLoad, SameFeeds, GrantsToo, TheLighterSaysYes, TheLighterOfOneListSaysYes}
 use Rattle.promises.proofs.System.{desks, judged-fits}
-use Rattle.promises.proofs.Charge.{calls-keep-charge}
+use Rattle.promises.proofs.Openings.{opening-good, opening-yes, opening-no, opening-book}
+use Rattle.promises.proofs.Stays.{calls-keep-charge}
 
 -- a desk that calls reach is good
 pub reached-is-good : (xs : List ℕ) (d : Desk) → Reached xs d → Good d
 reached-is-good xs d h =
     let o = h .from in
-    subst Good (h .there) (run-is-good desks (h .calls) (opened o) (opening-is-good (o .feeds) (o .start) (o .charge)) (h .made))
+    subst Good (h .there) (run-is-good desks (h .calls) (opened o) (opening-good o) (h .made))
 
 abbrev bookPlans : Desk → List edf.Plan
 bookPlans d = edf.plans (book d .feeds)
@@ -72,21 +71,20 @@ abbrev Laid : List ℕ → Desk → Type 0
 Laid xs d = (bookPlans d ≡ edf.plans (bookFeeds (d .ledger .charge) 1 (feedsIn xs))) ⊎ (bookPlans d ≡ [])
 
 opening-plans : (o : Opening) → Laid (o .feeds) (opened o)
-unfolding openedOf
-opening-plans o = go (firstOf (openLines (o .feeds) (o .start) (o .charge)))
+opening-plans o = go (answerTo o .verdict) refl
   where
-    fs : List Feed
-    fs = feedsIn (o .feeds)
-
-    go : (v : Verdict) → Laid (o .feeds) (onYes v (openedDesk fs (ticks (o .charge)) (instant (o .start))) empty)
-    go Yes = inl (ap (λ b. edf.plans (b .feeds)) (opened-book fs (ticks (o .charge)) (instant (o .start))) ∙ opened-keeps-plans (o .start) (bookFeeds (ticks (o .charge)) 1 fs))
-    go (No x) = inr refl
+    go : (v : Verdict) → answerTo o .verdict ≡ v → Laid (o .feeds) (opened o)
+    go Yes y =
+        inl (ap (λ b. edf.plans (b .feeds)) (opening-book o y)
+        ∙ opened-keeps-plans (o .start) (bookFeeds (ticks (o .charge)) 1 (feedsIn (o .feeds)))
+        ∙ ap (λ d. edf.plans (bookFeeds (d .ledger .charge) 1 (feedsIn (o .feeds)))) (sym (opening-yes o y)))
+    go (No x) n = inr (ap bookPlans (opening-no o x n))
 
 -- and calls keep them
 reached-plans : (xs : List ℕ) (d : Desk) → Reached xs d → Laid xs d
 reached-plans xs d h =
     let o = h .from in
-    let plans = sym (ap bookPlans (h .there)) ∙ run-keeps-plans desks (h .calls) (opened o) (opening-is-good (o .feeds) (o .start) (o .charge)) (h .made) in
+    let plans = sym (ap bookPlans (h .there)) ∙ run-keeps-plans desks (h .calls) (opened o) (opening-good o) (h .made) in
     let charge = sym (calls-keep-charge (h .calls) (opened o) (h .made)) ∙ ap (λ e. e .ledger .charge) (h .there) in
     ⊎-elim (λ e. inl (plans ∙ e ∙ (λ i. edf.plans (bookFeeds (charge i) 1 (feedsIn (h .list i)))))) (λ e. inr (plans ∙ e)) (opening-plans o)
 

@@ -16,7 +16,7 @@ use Rattle.answers.specs.Answers.{firstOf, isYes, onYes}
 use Rattle.answers.proofs.Answers.{yes-is-not-no}
 use Rattle.edf.specs.Fits.{Fits}
 use Rattle.edf.specs.Step as edf
-use Rattle.edf.specs.Runs.{Came, Did}
+use Rattle.edf.specs.Runs.{Did}
 use Rattle.edf.specs.Calls as calls
 use Rattle.edf.specs.Reordered.{Reordered}
 use Rattle.edf.proofs.Runs.{Makes, makes-nothing, takes-a-job, steps-once, ends-a-job, rests-a-feed, System}
@@ -24,15 +24,17 @@ use Rattle.ledger.specs.Books.{bookJob, whoOf, whoIs}
 use Rattle.ledger.proofs.Books.{who-back}
 use Rattle.desk.specs.declared.Desk.{Desk}
 use Rattle.desk.specs.declared.Answer.{Answer}
-use Rattle.desk.specs.declared.Stepped.{Stepped}
 use Rattle.desk.specs.State.{book, rewritten, Good}
 use Rattle.desk.specs.Calls.{disorder, stepLines, stepOf, endLines, endOf, restLines, restOf}
-use Rattle.desk.specs.Asking.{askLines, requested, with-job, Judged, Asked}
+use Rattle.desk.specs.Asking.{requested, with-job, Judged, Asked}
+use Rattle.desk.specs.Undated.{undatedLead, AskedUndated}
 use Rattle.desk.proofs.Asking.{admissible, said-yes}
 use Rattle.desk.proofs.Reachable.{admissible-askable}
+use Rattle.desk.proofs.Undated.{undated-yes}
 use Rattle.desk.proofs.Good.{step-is-good, step-book, end-is-good, end-book, rest-is-good, rest-book, ask-is-good, ask-book, ask-refused}
+use Rattle.desk.proofs.Good.{undated-is-good, undated-book, undated-refused}
 use Rattle.questions.specs.Meshes.{AskedMesh}
-use Rattle.promises.specs.Runs.{Call, ask, askMesh, step, end, rest, look, quiet, told, allows, Ends, Rests}
+use Rattle.promises.specs.Runs.{Call, ask, askMesh, askUndated, step, end, rest, look, quiet, told, allows, Ends, Rests}
 
 -- a job that is taken fits
 pub judged-fits : (d : Desk) (j : Job) (r : Answer) → Judged d j r → r .verdict ≡ Yes → Fits (with-job d j)
@@ -73,6 +75,26 @@ module _ (x : Did Call Desk) (d : Desk) (g : Good d) where
       go : (v : Verdict) → firstOf (disorder d ∷ meshLines s size) ≡ v → Followed
       go Yes y = ask-followed number (workOf (trianglesOf s)) lead r (a .asked y) e
       go (No z) n = unchanged (ap (λ c. c .state) e ∙ ap (λ k. k .desk) (a .stopped z n)) (ap (λ c. c .ticks) e)
+
+  -- an ask with no date: taken by an ordinary ask with the lead of the rule, or refused
+  undated-followed : (number work : ℕ) (r : Answer) → AskedUndated d number work r → x .came ≡ quiet (r .desk) → Followed
+  undated-followed number work r a e = go (r .verdict) refl
+    where
+      state : x .came .state ≡ r .desk
+      state = ap (λ c. c .state) e
+
+      go : (v : Verdict) → r .verdict ≡ v → Followed
+      go Yes y =
+          let (b, k, said, same, s) = undated-yes d number work r a y in
+          let lead = undatedLead d work in
+          let p = said-yes d number work lead b k said in
+          let j = requested d number work lead in (
+            subst Good (sym state) (undated-is-good d number work r a g),
+            takes-a-job book Ends Rests x d (bookJob j) (admissible-askable d j (admissible d number work lead (g .sized) p)) (judged-fits d j b (k .judged p) said)
+                (subst (λ c. Reordered (with-job d j) (book c)) (sym state) (undated-book d number work r a g y))
+                (ap (λ c. c .ticks) e),
+          )
+      go (No z) n = unchanged (state ∙ undated-refused d number work r a z n) (ap (λ c. c .ticks) e)
 
   -- a step: taken, or refused
   step-followed : x .came ≡ told (stepOf d) → Followed
@@ -128,6 +150,7 @@ follows x d g a = go (x .call) refl a
     go : (c : Call) → x .call ≡ c → allows c d (x .came) → Good (x .came .state) × Makes book Ends Rests x d
     go (ask number work lead r) c a = ask-followed x d g number work lead r (a .0) (a .1)
     go (askMesh s size number lead r) c a = mesh-followed x d g s size number lead r (a .0) (a .1)
+    go (askUndated number work r) c a = undated-followed x d g number work r (a .0) (a .1)
     go (step r) c a = step-followed x d g (a .1 ∙ ap told (a .0))
     go (end n r) c a = end-followed x d g n r c (a .0) (a .1)
     go (rest p r) c a = rest-followed x d g p r c (a .0) (a .1)

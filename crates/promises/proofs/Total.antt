@@ -22,13 +22,15 @@ use Rattle.edf.specs.Step.{ran, step}
 use Rattle.ledger.specs.Books.{whoIs}
 use Rattle.desk.specs.declared.Desk.{Desk}
 use Rattle.desk.specs.declared.Answer.{Answer}
-use Rattle.desk.specs.State.{book, rewritten, empty}
-use Rattle.desk.specs.Opening.{openedDesk, openedOf}
+use Rattle.shares.specs.Shares.{share}
+use Rattle.desk.specs.State.{book, rewritten, sharing, empty}
+use Rattle.desk.specs.Opening.{openedDesk, openedOf, openedSharedOf}
 use Rattle.desk.specs.Calls.{disorder, stepOf, endOf, restOf, countedOf, listedOf}
 use Rattle.desk.specs.Asking.{askLines, requested, with-job, Judged, Asked}
-use Rattle.desk.proofs.Good.{ask-refused}
+use Rattle.desk.specs.Undated.{undatedLines, undatedLead, AskedUndated}
+use Rattle.desk.proofs.Good.{ask-refused, undated-refused}
 use Rattle.questions.specs.Meshes.{AskedMesh}
-use Rattle.promises.specs.Total.{FirstThatHolds, AskRefused, MeshRefused, TheRefusalListed, RefusedHandsBack}
+use Rattle.promises.specs.Total.{FirstThatHolds, AskRefused, MeshRefused, UndatedRefused, TheRefusalListed, RefusedHandsBack}
 
 -- lines of which none holds, before others
 past : (ls ms : List Line) (v : Verdict) → Each (λ l. l .holds ≡ false) ls → firstOf ms ≡ v → firstOf (ls ++ ms) ≡ v
@@ -98,15 +100,33 @@ mesh-listed d s size number lead r a x = (λ n. told (firstOf (disorder d ∷ me
     given (inl e) = ap (λ k. k .verdict) (a .stopped x e)
     given (inr t) = ask-listed d number (workOf (trianglesOf s)) lead r (a .asked (t .0)) x .1 (t .1)
 
+undated-listed : (d : Desk) (number work : ℕ) (r : Answer) → AskedUndated d number work r
+    → (x : Refusal) → (r .verdict ≡ No x) ↔ UndatedRefused d number work x
+undated-listed d number work r a x = (λ n. told (firstOf (undatedLines d number)) refl n, given)
+  where
+    told : (v : Verdict) → firstOf (undatedLines d number) ≡ v → r .verdict ≡ No x → UndatedRefused d number work x
+    told Yes e n =
+        let (b, k, same) = a .asked e in
+        inr (e, ask-listed d number work (undatedLead d work) b k x .0 (sym (ap (λ q. q .verdict) same) ∙ n))
+    told (No y) e n = inl (e ∙ sym (ap (λ k. k .verdict) (a .stopped y e)) ∙ n)
+
+    given : UndatedRefused d number work x → r .verdict ≡ No x
+    given (inl e) = ap (λ k. k .verdict) (a .stopped x e)
+    given (inr t) =
+        let (b, k, same) = a .asked (t .0) in
+        ap (λ q. q .verdict) same ∙ ask-listed d number work (undatedLead d work) b k x .1 (t .1)
+
 pub the-refusal-listed : TheRefusalListed
-unfolding openedOf stepOf endOf restOf countedOf
+unfolding openedOf openedSharedOf stepOf endOf restOf countedOf
 the-refusal-listed =
     record {
       first = λ ls x. (first-holds ls x, first-is ls x);
       passed = λ ls. (none-holds ls, all-pass ls);
       opening = λ xs start charge. refl;
+      shared = λ xs start charge p q. refl;
       ask = ask-listed;
       mesh = mesh-listed;
+      undated = undated-listed;
       step = λ d. refl;
       end = λ d n. refl;
       rest = λ d p. refl;
@@ -135,12 +155,14 @@ step-refused d x n =
     }
 
 pub refused-hands-back : RefusedHandsBack
-unfolding openedOf stepOf endOf restOf countedOf listedOf
+unfolding openedOf openedSharedOf stepOf endOf restOf countedOf listedOf
 refused-hands-back =
     record {
       opening = λ xs start charge x n. refused (openedOf xs start charge .verdict) x (openedDesk (feedsIn xs) (ticks charge) (instant start)) empty n;
+      shared = λ xs start charge p q x n. refused (openedSharedOf xs start charge p q .verdict) x (sharing (share p q) (openedDesk (feedsIn xs) (ticks charge) (instant start))) empty n;
       ask = λ d number work lead r x a. ask-refused d number work lead r a x;
       mesh = mesh-refused;
+      undated = λ d number work r x a. undated-refused d number work r a x;
       step = step-refused;
       end = λ d k x n. refused _ x _ d n;
       rest = λ d p x n. refused _ x _ d n;

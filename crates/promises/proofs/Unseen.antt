@@ -3,7 +3,7 @@ use mathlib.Core.Path.{_≡_, refl, sym, ap, subst, _∙_}
 use mathlib.Core.Logic.{inl, inr}
 use mathlib.Core.Bool.{not, cond}
 use mathlib.Core.List.{List, [], _∷_, _++_, map}
-use Prim.Native.Nat.{ℕ, suc, pred, _+_, _*_, _≤_}
+use Prim.Native.Nat.{ℕ, suc, pred, _+_, _-_, _*_, _≤_}
 use native.Mathlib.Omega.{arith}
 use lib.Dec.{leb, ltb, eqb}
 use lib.ListN.{length, drop, length-map}
@@ -36,20 +36,25 @@ use Rattle.edf.specs.Fits.{Fits}
 use Rattle.edf.specs.Step.{ran, runner}
 use Rattle.edf.specs.Calls.{taking}
 use Rattle.edf.specs.Reordered.{Reordered}
+use Rattle.edf.specs.Share.{deadlineAt}
+use Rattle.shares.specs.declared.Share.{Share}
 use Rattle.edf.proofs.Reordered.{reordered-sym, reordered-order, reordered-fits, reordered-telling, reordered-runner, reordered-taking}
 use Rattle.ledger.specs.State.{InOrder}
 use Rattle.ledger.specs.Books.{bookFeeds, bookJob, jobOf, whoIs}
 use Rattle.ledger.proofs.Books.{jobs-of-book-own}
-use Rattle.ledger.proofs.InOrder.{in-order, state-in-order}
+use Rattle.ledger.proofs.InOrder.{state-in-order}
+use Rattle.desk.proofs.InOrder.{in-order}
 use Rattle.serving.specs.Tick.{lastLine}
 use Rattle.desk.specs.declared.Desk.{Desk}
 use Rattle.desk.specs.declared.Answer.{Answer}
 use Rattle.desk.specs.State.{book, Good}
 use Rattle.desk.specs.Calls.{disorder, stepLines, stepOf, endLines, endOf, restLines, restOf, listLines, countedOf, listedOf, runnerOf}
-use Rattle.desk.specs.Asking.{requestLines, placeLines, askLines, requested, with-job, Judged, Asked}
+use Rattle.desk.specs.Opening.{shareLine}
+use Rattle.desk.specs.Asking.{numberLine, requestLines, placeLines, askLines, requested, with-job, Judged, Asked}
+use Rattle.desk.specs.Undated.{undatedLines, undatedDeadline, undatedLead, AskedUndated}
 use Rattle.questions.specs.Meshes.{AskedMesh}
 use Rattle.promises.specs.Runs.{ask, end, rest}
-use Rattle.promises.specs.Arrival.{jobAsked, askedLines, Answers, MeshAnswers, owesIn, stepped, endedBy, restedBy, listedBy, AnswersAs}
+use Rattle.promises.specs.Arrival.{Arrived, jobAsked, ruled, leadOf, askedLines, Answers, MeshAnswers, UndatedAnswers, owesIn, stepped, endedBy, restedBy, listedBy, AnswersAs}
 
 -- what a feed's current piece owes, in the state and in its book
 owes-read : (p : ℕ) (charge : Length) (k : ℕ) (fs : List Feed) → owesAt p k fs ≡ owesIn p (bookFeeds charge k fs)
@@ -65,7 +70,7 @@ module _ (c : ℕ) (b : Book) (d : Desk) (g : Good d) (r : Reordered b (book d))
   bs = map jobOf (b .jobs)
 
   order : InOrder (d .ledger)
-  order = in-order (d .ledger) (g .sized) (g .order)
+  order = in-order d (g .sized) (g .order)
 
   pub ordered : BookInOrder b
   ordered = reordered-order (book d) b (reordered-sym b (book d) r) (state-in-order (d .ledger) order)
@@ -131,6 +136,31 @@ module _ (c : ℕ) (b : Book) (d : Desk) (g : Good d) (r : Reordered b (book d))
         asked = λ e. ask-same number (workOf (trianglesOf s)) lead a (h .asked (own ∙ e));
       }
 
+  -- AN ASK WITH NO DATE: the rule gives the same lead
+  module _ (s : Share) (k : d .share ≡ s) (previous : ℕ) (e : d .previous .0 ≡ previous) where
+    abbrev arrived : Arrived
+    arrived = record { book = b; previous = previous }
+
+    pub ruled-same : (work : ℕ) → undatedDeadline d work ≡ ruled c s (record { book = b; previous = previous }) work
+    ruled-same work = λ i. deadlineAt (k i .p) (k i .q) (e i) (sym (r .clock) i) (work + q i)
+
+    pub lead-same : (work : ℕ) → undatedLead d work ≡ leadOf c s (record { book = b; previous = previous }) work
+    lead-same work = λ i. ruled-same work i - sym (r .clock) i
+
+    first-same : (number : ℕ) → firstOf (undatedLines d number) ≡ firstOf (numberLine number ∷ shareLine s ∷ [])
+    first-same number =
+        goes-on (disorder d) (numberLine number ∷ shareLine (d .share) ∷ []) _ (ap not (g .order)) refl ∙ ap (λ t. firstOf (numberLine number ∷ shareLine t ∷ [])) k
+
+    undated-same : (number work : ℕ) (a : Answer) → AskedUndated d number work a → UndatedAnswers c s arrived number work (a .verdict)
+    undated-same number work a h =
+        record {
+          stopped = λ x f. ap (λ t. t .verdict) (h .stopped x (first-same number ∙ f));
+          asked = λ f.
+              let (u, v, w) = h .asked (first-same number ∙ f) in
+              subst (λ t. Answers c b number work (leadOf c s arrived work) t) (sym (ap (λ t. t .verdict) w))
+              (subst (λ l. Answers c b number work l (u .verdict)) (lead-same work) (ask-same number work (undatedLead d work) u v));
+        }
+
   -- A STEP
   runner-same : runner (book d) ≡ runner b
   runner-same = reordered-runner b (book d) r ordered
@@ -176,13 +206,15 @@ module _ (c : ℕ) (b : Book) (d : Desk) (g : Good d) (r : Reordered b (book d))
       ∙ ap figured (sorted-once (sorted ks) (sorted bs) (sorted-sorted ks once′) (sorted-sorted bs once) same)
 
   -- NO ANSWER SEES THE ORDER
-  pub answers-as : AnswersAs c b d
+  pub answers-as : (s : Share) (previous : ℕ) → d .share ≡ s → d .previous .0 ≡ previous → AnswersAs c s (record { book = b; previous = previous }) d
   unfolding stepOf endOf restOf countedOf listedOf runnerOf owesBy
-  answers-as =
+  answers-as s previous k e =
       record {
         jobs = r;
+        previous = e;
         ask = ask-same;
         mesh = mesh-same;
+        undated = undated-same s k previous e;
         verdict = verdict-same;
         who = λ i. onYes (verdict-same i) (whoIs (ran-same i .who)) Idle;
         owes = λ i. onYes (verdict-same i) (ticks (ran-same i .owes)) (ticks 0);

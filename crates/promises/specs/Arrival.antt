@@ -1,10 +1,11 @@
 -- THE ORDER OF THE TABLE IS NOT SEEN: for any calls from an opening the desk answers as the one that keeps its jobs in the order
--- of their yes. That one is told by its book alone: what each call makes of it, and what it answers.
+-- of their yes. That one is told by its book and the deadline of the last job that it took with no date: what each call makes of
+-- them, and what it answers.
 use mathlib.Core.Path.{_≡_}
 use mathlib.Core.Logic.{_↔_}
 use mathlib.Core.Bool.{not, cond}
 use mathlib.Core.List.{List, [], _∷_, _++_, map}
-use Prim.Native.Nat.{ℕ, _+_, _*_}
+use Prim.Native.Nat.{ℕ, _+_, _-_, _*_}
 use lib.Dec.{ltb, eqb}
 use lib.ListN.{length, drop}
 use Rattle.lists.specs.Lists.{total}
@@ -15,7 +16,6 @@ use Rattle.jobs.specs.Jobs.{numbersAJob, lacks, live, tableOf}
 use Rattle.jobs.specs.Figures.{owesBy, figured}
 use Rattle.jobs.specs.Sorted.{sorted}
 use Rattle.listing.specs.Words.{words}
-use Rattle.answers.specs.declared.Who.{Who}
 use Rattle.answers.specs.declared.Who.the-variants.{Idle}
 use Rattle.answers.specs.declared.Refusal.{Refusal}
 use Rattle.answers.specs.declared.Refusal.the-variants.{PastLast, DoesNotFit, NothingThere, ShortBuffer}
@@ -30,33 +30,64 @@ use Rattle.edf.specs.Margin.{Telling}
 use Rattle.edf.specs.Calls.{taking, ending, resting}
 use Rattle.edf.specs.Reordered.{Reordered}
 use Rattle.edf.specs.Runs.{after}
+use Rattle.edf.specs.Share.{deadlineAt}
+use Rattle.shares.specs.declared.Share.{Share}
 use Rattle.ledger.specs.Books.{jobOf, whoIs}
 use Rattle.desk.specs.declared.Desk.{Desk}
 use Rattle.desk.specs.declared.Answer.{Answer}
 use Rattle.desk.specs.State.{book}
 use Rattle.desk.specs.Calls.{stepOf, endOf, restOf, countedOf, listedOf, runnerOf}
-use Rattle.desk.specs.Asking.{requestLines, placeLines, requested, with-job, Asked}
+use Rattle.desk.specs.Opening.{shareLine}
+use Rattle.desk.specs.Asking.{numberLine, requestLines, placeLines, requested, with-job, Asked}
+use Rattle.desk.specs.Undated.{AskedUndated}
 use Rattle.questions.specs.Meshes.{AskedMesh}
-use Rattle.promises.specs.Runs.{Call, Calls, ask, askMesh, step, end, rest, look, Made, Opening, opened, chargeOf}
+use Rattle.promises.specs.Runs.{Call, Calls, ask, askMesh, askUndated, step, end, rest, look, Made, Opening, opened, chargeOf, shareOf}
 
 -- the job that is asked for under a charge: it owes its work and the charge, and is due the lead after the clock
 abbrev pub jobAsked : ℕ → Book → ℕ → ℕ → ℕ → Job
 jobAsked charge b number work lead = record { number = number; owes = work + charge; due = b .clock + lead }
 
+-- what that desk has: its book, the jobs in the order of their yes, and the deadline of the last one taken with no date
+pub record Arrived : Type 0 where
+  pub book : Book
+  pub previous : ℕ
+
+-- the deadline that the rule gives under a charge and a share, and as a lead
+abbrev pub ruled : ℕ → Share → Arrived → ℕ → ℕ
+ruled charge s k work = deadlineAt (s .p) (s .q) (k .previous) (k .book .clock) (work + charge)
+
+abbrev pub leadOf : ℕ → Share → Arrived → ℕ → ℕ
+leadOf charge s k work = ruled charge s k work - k .book .clock
+
 -- what a call with its answer makes of the book: a job that is taken stands behind the others
-unfoldable pub follows : ℕ → Call → Book → Book
-follows charge (ask number work lead r) b = onYes (r .verdict) (taking (jobAsked charge b number work lead) b) b
-follows charge (askMesh s size number lead r) b =
-    onYes (r .verdict) (taking (jobAsked charge b number (workOf (trianglesOf s)) lead) b) b
-follows charge (step r) b = onYes (r .verdict) (edf.step b) b
-follows charge (end n r) b = onYes (r .verdict) (ending n b) b
-follows charge (rest p r) b = onYes (r .verdict) (resting p b) b
-follows charge look b = b
+unfoldable pub bookAfter : ℕ → Share → Call → Arrived → Book
+bookAfter charge s (ask number work lead r) k = onYes (r .verdict) (taking (jobAsked charge (k .book) number work lead) (k .book)) (k .book)
+bookAfter charge s (askMesh bytes size number lead r) k =
+    onYes (r .verdict) (taking (jobAsked charge (k .book) number (workOf (trianglesOf bytes)) lead) (k .book)) (k .book)
+bookAfter charge s (askUndated number work r) k =
+    onYes (r .verdict) (taking (jobAsked charge (k .book) number work (leadOf charge s k work)) (k .book)) (k .book)
+bookAfter charge s (step r) k = onYes (r .verdict) (edf.step (k .book)) (k .book)
+bookAfter charge s (end n r) k = onYes (r .verdict) (ending n (k .book)) (k .book)
+bookAfter charge s (rest p r) k = onYes (r .verdict) (resting p (k .book)) (k .book)
+bookAfter charge s look k = k .book
+
+-- and of the deadline: a yes to an ask with no date sets it, and nothing else does
+unfoldable pub previousAfter : ℕ → Share → Call → Arrived → ℕ
+previousAfter charge s (ask number work lead r) k = k .previous
+previousAfter charge s (askMesh bytes size number lead r) k = k .previous
+previousAfter charge s (askUndated number work r) k = onYes (r .verdict) (ruled charge s k work) (k .previous)
+previousAfter charge s (step r) k = k .previous
+previousAfter charge s (end n r) k = k .previous
+previousAfter charge s (rest p r) k = k .previous
+previousAfter charge s look k = k .previous
+
+abbrev pub follows : ℕ → Share → Call → Arrived → Arrived
+follows charge s c k = record { book = bookAfter charge s c k; previous = previousAfter charge s c k }
 
 -- after any calls
-unfoldable pub inOrderOfArrival : ℕ → Calls → Book → Book
-inOrderOfArrival charge [] b = b
-inOrderOfArrival charge (x ∷ xs) b = inOrderOfArrival charge xs (follows charge (x .call) b)
+unfoldable pub inOrderOfArrival : ℕ → Share → Calls → Arrived → Arrived
+inOrderOfArrival charge s [] k = k
+inOrderOfArrival charge s (x ∷ xs) k = inOrderOfArrival charge s xs (follows charge s (x .call) k)
 
 -- lines 1 to 5 of an ask
 abbrev pub askedLines : Book → ℕ → ℕ → ℕ → List Line
@@ -73,6 +104,11 @@ pub record Answers (charge : ℕ) (b : Book) (number work lead : ℕ) (v : Verdi
 pub record MeshAnswers (charge : ℕ) (b : Book) (s : List ℕ) (size number lead : ℕ) (v : Verdict) : Type 0 where
   pub stopped : (x : Refusal) → firstOf (meshLines s size) ≡ No x → v ≡ No x
   pub asked : firstOf (meshLines s size) ≡ Yes → Answers charge b number (workOf (trianglesOf s)) lead v
+
+-- an ask with no date: line 1 or 19, then what an ask with the lead of the rule answers
+pub record UndatedAnswers (charge : ℕ) (s : Share) (k : Arrived) (number work : ℕ) (v : Verdict) : Type 0 where
+  pub stopped : (x : Refusal) → firstOf (numberLine number ∷ shareLine s ∷ []) ≡ No x → v ≡ No x
+  pub asked : firstOf (numberLine number ∷ shareLine s ∷ []) ≡ Yes → Answers charge (k .book) number work (leadOf charge s k work) v
 
 -- what the current piece of the feed at a position owes; nothing where there is none
 abbrev pub owesIn : ℕ → List Feed → ℕ
@@ -96,30 +132,35 @@ listedBy b size = firstOf (line (ltb size (numbersAJob * length (b .jobs))) Shor
 abbrev pub listing : Book → List ℕ
 listing b = words (figured (sorted (map jobOf (b .jobs))))
 
--- the desk answers as this book does, and its book is the same but for the order of the jobs
-pub record AnswersAs (charge : ℕ) (b : Book) (d : Desk) : Type 0 where
-  pub jobs : Reordered b (book d)
-  pub ask : (number work lead : ℕ) (r : Answer) → Asked d number work lead r → Answers charge b number work lead (r .verdict)
-  pub mesh : (s : List ℕ) (size number lead : ℕ) (r : Answer) → AskedMesh d s size number lead r → MeshAnswers charge b s size number lead (r .verdict)
+-- the desk answers as this one does, and its book is the same but for the order of the jobs
+pub record AnswersAs (charge : ℕ) (s : Share) (k : Arrived) (d : Desk) : Type 0 where
+  pub jobs : Reordered (k .book) (book d)
+  pub previous : d .previous .0 ≡ k .previous
+  pub ask : (number work lead : ℕ) (r : Answer) → Asked d number work lead r → Answers charge (k .book) number work lead (r .verdict)
+  pub mesh : (bytes : List ℕ) (size number lead : ℕ) (r : Answer)
+      → AskedMesh d bytes size number lead r → MeshAnswers charge (k .book) bytes size number lead (r .verdict)
+  pub undated : (number work : ℕ) (r : Answer) → AskedUndated d number work r → UndatedAnswers charge s k number work (r .verdict)
   -- a step
-  pub verdict : stepOf d .verdict ≡ stepped b
-  pub who : stepOf d .who ≡ onYes (stepped b) (whoIs (ran b .who)) Idle
-  pub owes : stepOf d .owes ≡ onYes (stepped b) (ticks (ran b .owes)) (ticks 0)
-  pub end : (n : ℕ) → endOf d n .verdict ≡ endedBy b n
-  pub rest : (p : ℕ) → restOf d p .verdict ≡ restedBy b p
+  pub verdict : stepOf d .verdict ≡ stepped (k .book)
+  pub who : stepOf d .who ≡ onYes (stepped (k .book)) (whoIs (ran (k .book) .who)) Idle
+  pub owes : stepOf d .owes ≡ onYes (stepped (k .book)) (ticks (ran (k .book) .owes)) (ticks 0)
+  pub end : (n : ℕ) → endOf d n .verdict ≡ endedBy (k .book) n
+  pub rest : (p : ℕ) → restOf d p .verdict ≡ restedBy (k .book) p
   -- a list
-  pub counted : (size : ℕ) → countedOf d size ≡ record { verdict = listedBy b size; count = onYes (listedBy b size) (length (b .jobs)) 0 }
+  pub counted : (size : ℕ) → countedOf d size ≡ record { verdict = listedBy (k .book) size; count = onYes (listedBy (k .book) size) (length (k .book .jobs)) 0 }
   pub listed : (buffer : List ℕ)
-      → listedOf d buffer ≡ onYes (listedBy b (length buffer)) (listing b ++ drop (numbersAJob * length (b .jobs)) buffer) buffer
+      → listedOf d buffer ≡ onYes (listedBy (k .book) (length buffer)) (listing (k .book) ++ drop (numbersAJob * length (k .book .jobs)) buffer) buffer
   -- the label is that of whom the next step would name
-  pub label : runnerOf d ≡ onYes (stepped b) (whoIs (runner b .who)) Idle
+  pub label : runnerOf d ≡ onYes (stepped (k .book)) (whoIs (runner (k .book) .who)) Idle
   -- the instant that a customer is told of, and what the live jobs owe by it
   pub instants : (number work lead D : ℕ)
-      → Telling (taking (jobAsked charge b number work lead) b) D ↔ Telling (with-job d (requested d number work lead)) D
-  pub parts : (D : ℕ) → total (owesBy D) (live (d .ledger .table)) ≡ total (owesBy D) (map jobOf (b .jobs))
+      → Telling (taking (jobAsked charge (k .book) number work lead) (k .book)) D ↔ Telling (with-job d (requested d number work lead)) D
+  pub parts : (D : ℕ) → total (owesBy D) (live (d .ledger .table)) ≡ total (owesBy D) (map jobOf (k .book .jobs))
 
 -- for any calls from an opening, refused ones among them
 unfoldable pub AnswersAsInOrderOfArrival : Type 0
 AnswersAsInOrderOfArrival =
     (o : Opening) (cs : Calls) → Made cs (opened o)
-    → AnswersAs (chargeOf o) (inOrderOfArrival (chargeOf o) cs (book (opened o))) (after cs (opened o))
+    → AnswersAs (chargeOf o) (shareOf o)
+    (inOrderOfArrival (chargeOf o) (shareOf o) cs (record { book = book (opened o); previous = 0 }))
+    (after cs (opened o))

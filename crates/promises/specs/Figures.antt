@@ -17,6 +17,7 @@ use Rattle.desk.specs.declared.Desk.{Desk}
 use Rattle.desk.specs.declared.Answer.{Answer}
 use Rattle.desk.specs.Calls.{disorder, stepOf, endOf, restOf, countedOf, listedOf}
 use Rattle.desk.specs.Asking.{Asked}
+use Rattle.desk.specs.Undated.{AskedUndated}
 use Rattle.questions.specs.Meshes.{AskedMesh}
 use Rattle.promises.specs.Runs.{Calls, Made, Opening, opened}
 
@@ -33,6 +34,7 @@ EveryFigureIsTheSum = (o : Opening) (cs : Calls) → Made cs (opened o) → True
 pub record TakenCallsKeepFigures : Type 0 where
   pub ask : (d : Desk) (number work lead : ℕ) (r : Answer) → Asked d number work lead r → r .verdict ≡ Yes → TrueFigures (r .desk)
   pub mesh : (d : Desk) (s : List ℕ) (size number lead : ℕ) (r : Answer) → AskedMesh d s size number lead r → r .verdict ≡ Yes → TrueFigures (r .desk)
+  pub undated : (d : Desk) (number work : ℕ) (r : Answer) → AskedUndated d number work r → r .verdict ≡ Yes → TrueFigures (r .desk)
   pub step : (d : Desk) → stepOf d .verdict ≡ Yes → TrueFigures (stepOf d .desk)
   pub end : (d : Desk) (n : ℕ) → endOf d n .verdict ≡ Yes → TrueFigures (endOf d n .desk)
   pub rest : (d : Desk) (p : ℕ) → restOf d p .verdict ≡ Yes → TrueFigures (restOf d p .desk)

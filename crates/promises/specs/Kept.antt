@@ -18,12 +18,12 @@ use Rattle.edf.specs.Releases.{since}
 use Rattle.edf.specs.Runs.{Did, after, named}
 use Rattle.edf.specs.Kept as edf
 use Rattle.edf.specs.Load.{Sound}
-use Rattle.ledger.specs.State.{inOrder}
 use Rattle.ledger.specs.Books.{bookFeeds}
 use Rattle.desk.specs.declared.Desk.{Desk}
 use Rattle.desk.specs.declared.Answer.{Answer}
-use Rattle.desk.specs.State.{book}
-use Rattle.promises.specs.Runs.{Call, Calls, Made, Ends, Rests, Opening, answerTo, opened, chargeOf, asked, askedMesh}
+use Rattle.desk.specs.State.{book, inOrder}
+use Rattle.desk.specs.Undated.{undatedDeadline}
+use Rattle.promises.specs.Runs.{Call, Calls, Made, Ends, Rests, Opening, answerTo, opened, chargeOf, asked, askedMesh, askedUndated}
 
 -- no call changes the charge: it stays the one that the opening set
 unfoldable pub TheChargeStays : Type 0
@@ -35,7 +35,7 @@ TheChargeStays =
 unfoldable pub EveryStateIsInOrder : Type 0
 EveryStateIsInOrder =
     (o : Opening) (cs : Calls) → Made cs (opened o)
-    → (inOrder (after cs (opened o) .ledger) ≡ true) × Sound (book (after cs (opened o)))
+    → (inOrder (after cs (opened o)) ≡ true) × Sound (book (after cs (opened o)))
 
 -- a job by its number, its deadline and its work, over calls from a desk on: still live, gone with all its work in time, or
 -- ended by a call that was answered yes
@@ -58,6 +58,13 @@ EveryMeshYesIsKept =
     (o : Opening) (before : Calls) (s : List ℕ) (size number lead : ℕ) (r : Answer) (later : Calls)
     → Made (before ++ (askedMesh s size number lead r ∷ later)) (opened o) → r .verdict ≡ Yes
     → JobKept number (after before (opened o) .ledger .clock .0 + lead) (workOf (trianglesOf s) + chargeOf o) later (r .desk)
+
+-- and of an ask with no date, by the deadline that the rule gives it
+unfoldable pub EveryUndatedYesIsKept : Type 0
+EveryUndatedYesIsKept =
+    (o : Opening) (before : Calls) (number work : ℕ) (r : Answer) (later : Calls)
+    → Made (before ++ (askedUndated number work r ∷ later)) (opened o) → r .verdict ≡ Yes
+    → JobKept number (undatedDeadline (after before (opened o)) work) (work + chargeOf o) later (r .desk)
 
 -- once the clock has reached its deadline it is over: the job has left with all its work in time, or was ended
 unfoldable pub DoneByItsDeadline : Type 0
@@ -113,6 +120,15 @@ EveryMeshReportIsRight =
     → x .came .who ≡ job number → 1 ≤ x .came .ticks
     → (x .came .owes + named (job number) (since-then ++ (x ∷ [])) ≡ workOf (trianglesOf s) + chargeOf o)
     ⊎ Over number (after before (opened o) .ledger .clock .0 + lead) (workOf (trianglesOf s) + chargeOf o) since-then (r .desk)
+
+-- and of one that was taken with no date
+unfoldable pub EveryUndatedReportIsRight : Type 0
+EveryUndatedReportIsRight =
+    (o : Opening) (before : Calls) (number work : ℕ) (r : Answer) (since-then : Calls) (x : Did Call Desk) (later : Calls)
+    → Made (before ++ (askedUndated number work r ∷ (since-then ++ (x ∷ later)))) (opened o) → r .verdict ≡ Yes
+    → x .came .who ≡ job number → 1 ≤ x .came .ticks
+    → (x .came .owes + named (job number) (since-then ++ (x ∷ [])) ≡ work + chargeOf o)
+    ⊎ Over number (undatedDeadline (after before (opened o)) work) (work + chargeOf o) since-then (r .desk)
 
 -- and of a layer piece since its release
 unfoldable pub EveryPieceReportIsRight : Type 0

@@ -8,6 +8,7 @@ pub mod Exact
 pub mod Kept
 pub mod Figures
 pub mod Arrival
+pub mod Undated
 pub mod Load
 pub mod Finish
 pub mod Overbooked

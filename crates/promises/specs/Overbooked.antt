@@ -3,9 +3,12 @@
 -- back is out of order; a late piece gives way at its deadline.
 use mathlib.Core.Path.{_≡_}
 use mathlib.Core.Bool.{false}
+use mathlib.Core.List.{List, _∷_}
 use Prim.Native.Nat.{ℕ, suc, _+_, _-_, _≤_, _<_}
 use Rattle.lists.specs.Lists.{Some}
 use Rattle.ticks.specs.Ticks.{ticks}
+use Rattle.mesh.specs.Bands.{workOf}
+use Rattle.mesh.specs.Meshes.{trianglesOf, meshLines}
 use Rattle.answers.specs.declared.Refusal.the-variants.{DoesNotFit}
 use Rattle.answers.specs.declared.Verdict.the-variants.{Yes, No}
 use Rattle.answers.specs.Answers.{firstOf}
@@ -14,26 +17,39 @@ use Rattle.edf.specs.Releases.{since}
 use Rattle.edf.specs.Fits.{Fits}
 use Rattle.edf.specs.Step.{runner}
 use Rattle.edf.specs.Kept.{Live, Current}
-use Rattle.ledger.specs.State.{Sized, inOrder}
+use Rattle.ledger.specs.State.{Sized}
 use Rattle.desk.specs.declared.Desk.{Desk}
 use Rattle.desk.specs.declared.Answer.{Answer}
-use Rattle.desk.specs.State.{book}
-use Rattle.desk.specs.Calls.{stepLines, stepOf}
+use Rattle.desk.specs.State.{book, inOrder}
+use Rattle.desk.specs.Calls.{disorder, stepLines, stepOf}
 use Rattle.desk.specs.Asking.{askLines, Asked}
+use Rattle.desk.specs.Undated.{undatedLines, undatedLead, AskedUndated}
+use Rattle.questions.specs.Meshes.{AskedMesh}
 
--- what is promised already does not fit: every ask that passes lines 13 and 1 to 5 gets 6, and the desk is as it was
-unfoldable pub OverbookedTakesNothing : Type 0
-OverbookedTakesNothing =
-    (d : Desk) → Sized (d .ledger) → (Fits (book d) → ⊥)
-    → (number work lead : ℕ) (r : Answer) → firstOf (askLines d number (ticks work) (ticks lead)) ≡ Yes → Asked d number work lead r
-    → r ≡ record { desk = d; verdict = No DoesNotFit }
+-- the answer is 6, and the desk is as it was
+abbrev pub GetsSix : Desk → Answer → Type 0
+GetsSix d r = r ≡ record { desk = d; verdict = No DoesNotFit }
+
+-- what is promised already does not fit: every ask that passes the lines before 6 gets 6
+pub record OverbookedTakesNothing : Type 0 where
+  pub ask : (d : Desk) → Sized (d .ledger) → (Fits (book d) → ⊥)
+      → (number work lead : ℕ) (r : Answer) → firstOf (askLines d number (ticks work) (ticks lead)) ≡ Yes
+      → Asked d number work lead r → GetsSix d r
+  pub mesh : (d : Desk) → Sized (d .ledger) → (Fits (book d) → ⊥)
+      → (s : List ℕ) (size number lead : ℕ) (r : Answer) → firstOf (disorder d ∷ meshLines s size) ≡ Yes
+      → firstOf (askLines d number (ticks (workOf (trianglesOf s))) (ticks lead)) ≡ Yes
+      → AskedMesh d s size number lead r → GetsSix d r
+  pub undated : (d : Desk) → Sized (d .ledger) → (Fits (book d) → ⊥)
+      → (number work : ℕ) (r : Answer) → firstOf (undatedLines d number) ≡ Yes
+      → firstOf (askLines d number (ticks work) (ticks (undatedLead d work))) ≡ Yes
+      → AskedUndated d number work r → GetsSix d r
 
 -- a live job whose deadline the clock reaches with ticks still owed stays, owing them, and the state is out of order
 unfoldable pub ALateJobStays : Type 0
 ALateJobStays =
     (d : Desk) → Sized (d .ledger) → firstOf (stepLines d) ≡ Yes
     → (n due owes : ℕ) → Live n due owes (book d) → due ≤ suc (d .ledger .clock .0) → same (runner (book d) .who) (job n) < owes
-    → Live n due (owes - same (runner (book d) .who) (job n)) (book (stepOf d .desk)) × (inOrder (stepOf d .desk .ledger) ≡ false)
+    → Live n due (owes - same (runner (book d) .who) (job n)) (book (stepOf d .desk)) × (inOrder (stepOf d .desk) ≡ false)
 
 -- the feed at this position, by this plan, has nothing to get
 abbrev pub OwesNothing : Feed → Feed → Type 0

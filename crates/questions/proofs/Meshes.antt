@@ -11,8 +11,8 @@ use Rattle.answers.specs.declared.Verdict.{Verdict}
 use Rattle.answers.specs.declared.Verdict.the-variants.{Yes, No}
 use Rattle.answers.specs.Answers.{firstOf, isYes}
 use Rattle.answers.proofs.Answers.{stops, goes-on, yes-is-not-no}
-use Rattle.ledger.specs.State.{inOrder}
 use Rattle.desk.specs.declared.Desk.{Desk}
+use Rattle.desk.specs.State.{inOrder}
 use Rattle.desk.specs.declared.Answer.{Answer}
 use Rattle.desk.specs.Calls.{disorder}
 use Rattle.desk.specs.Asking.{Asked}
@@ -29,11 +29,11 @@ module _ (d : Desk) (s : List ℕ) (size number lead : ℕ) where
       }
 
   -- line 13 comes first
-  pub mesh-out-of-order : inOrder (d .ledger) ≡ false → AskedMesh d s size number lead (record { desk = d; verdict = No NotInOrder })
+  pub mesh-out-of-order : inOrder d ≡ false → AskedMesh d s size number lead (record { desk = d; verdict = No NotInOrder })
   mesh-out-of-order out = mesh-stopped NotInOrder (stops (disorder d) (meshLines s size) (ap not out))
 
   -- then the mesh's own
-  pub mesh-refused : (v : Verdict) → inOrder (d .ledger) ≡ true → v ≡ firstOf (meshLines s size) → isYes v ≡ false
+  pub mesh-refused : (v : Verdict) → inOrder d ≡ true → v ≡ firstOf (meshLines s size) → isYes v ≡ false
       → AskedMesh d s size number lead (record { desk = d; verdict = v })
   mesh-refused Yes fine e n = absurd (false≢true (sym n))
   mesh-refused (No x) fine e n = mesh-stopped x (goes-on (disorder d) (meshLines s size) (No x) (ap not fine) (sym e))

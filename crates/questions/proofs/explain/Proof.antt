@@ -13,7 +13,7 @@ use Rattle.answers.specs.declared.Refusal.the-variants.{DoesNotFit}
 use Rattle.answers.specs.declared.Verdict.the-variants.{Yes, No}
 use Rattle.ledger.specs.State.{InOrder}
 use Rattle.ledger.specs.Books.{bookOf}
-use Rattle.ledger.proofs.InOrder.{in-order}
+use Rattle.desk.proofs.InOrder.{in-order}
 use Rattle.reasons.specs.Reasons.{Tells, nearReason}
 use Rattle.desk.specs.Asking.{with-job}
 use Rattle.desk.proofs.Asking.{takes, taken-in-order, taken-book}

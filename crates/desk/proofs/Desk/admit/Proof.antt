@@ -1,12 +1,12 @@
 -- `desk::Desk::admit` meets its contract: the state with the job is what is asked of room.
-use mathlib.Core.Path.{_≡_, refl, sym, ap, subst, _∙_}
+use mathlib.Core.Path.{refl, sym, ap, subst, _∙_}
 use mathlib.Core.Logic.{inl, inr}
 use borrow.Author.Needs.{needs}
 use Rattle.answers.specs.declared.Verdict.the-variants.{Yes}
 use Rattle.room.specs.Walk.{FitsSays}
 use Rattle.ledger.specs.State.{InOrder}
 use Rattle.ledger.specs.Books.{bookOf}
-use Rattle.ledger.proofs.InOrder.{in-order}
+use Rattle.desk.proofs.InOrder.{in-order}
 use Rattle.edf.proofs.Reordered.{reordered-fits, reordered-sym}
 use Rattle.desk.specs.State.{with}
 use Rattle.desk.specs.Asking.{with-job, Judged}

@@ -4,10 +4,10 @@ use mathlib.Core.Bool.{true}
 use borrow.Author.Needs.{needs}
 use borrow.Author.Tests.{not-true, not-false}
 use Rattle.lists.proofs.Places.{length-mapped}
-use Rattle.answers.specs.Answers.{firstOf, isYes, onYes}
+use Rattle.answers.specs.Answers.{firstOf, isYes}
 use Rattle.answers.proofs.Answers.{is-yes, yes-first, on-yes, on-no}
 use Rattle.ledger.specs.State.{Sized, InOrder}
-use Rattle.ledger.proofs.InOrder.{in-order}
+use Rattle.desk.proofs.InOrder.{in-order}
 use Rattle.edf.specs.Calls.{ending}
 use Rattle.desk.specs.State.{book, with, rewritten}
 use Rattle.desk.specs.Calls.{endLines, endOf}

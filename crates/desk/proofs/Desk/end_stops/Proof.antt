@@ -1,19 +1,20 @@
 -- `desk::Desk::end_stops` meets its contract: line 13, then line 7.
 use mathlib.Core.Path.{_≡_, sym, ap, _∙_}
-use mathlib.Core.Bool.{true, false, not}
+use mathlib.Core.Bool.{true, not}
 use borrow.Author.Needs.{needs}
 use borrow.Author.Tests.{not-true, not-false}
 use Rattle.lists.proofs.Places.{length-mapped}
 use Rattle.answers.proofs.Answers.{stops, goes-on, no-line}
-use Rattle.ledger.specs.State.{Sized, inOrder}
-use Rattle.ledger.proofs.InOrder.{in-order}
+use Rattle.ledger.specs.State.{Sized}
+use Rattle.desk.specs.State.{inOrder}
+use Rattle.desk.proofs.InOrder.{in-order}
 use Rattle.desk.proofs.Desk.end_stops.Statement.{statement}
 use Rattle.desk.proofs.Desk.end_stops.Tie as tie
 
 sized : (c : tie.Start) → Sized (c .args .self .ledger)
 sized c = record { feeds = search (needs, length-mapped); jobs = search (needs, length-mapped) }
 
-fine : (c : tie.Else1) → inOrder (c .before .before .args .self .ledger) ≡ true
+fine : (c : tie.Else1) → inOrder (c .before .before .args .self) ≡ true
 fine c = sym (c .before .in-order .ensures) ∙ not-false _ (c .if1 .left)
 
 returns : tie.Need-returns

@@ -12,7 +12,7 @@ use Rattle.listing.specs.Words.{words}
 use Rattle.answers.specs.Answers.{firstOf, isYes}
 use Rattle.answers.proofs.Answers.{is-yes, yes-first, on-yes, on-no}
 use Rattle.ledger.specs.State.{Sized, InOrder}
-use Rattle.ledger.proofs.InOrder.{in-order}
+use Rattle.desk.proofs.InOrder.{in-order}
 use Rattle.desk.specs.Calls.{listLines, countedOf, listedOf}
 use Rattle.desk.proofs.Desk.list.Statement.{statement}
 use Rattle.desk.proofs.Desk.list.Tie as tie

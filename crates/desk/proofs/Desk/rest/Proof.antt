@@ -8,10 +8,10 @@ use Rattle.feeds.specs.Feeds.{inUse}
 use Rattle.feeds.proofs.Positions.{owes-some}
 use Rattle.feeds.proofs.Passing.{tidy-many}
 use Rattle.lists.proofs.Places.{length-mapped}
-use Rattle.answers.specs.Answers.{firstOf, isYes, onYes}
+use Rattle.answers.specs.Answers.{firstOf, isYes}
 use Rattle.answers.proofs.Answers.{is-yes, yes-first, on-yes, on-no}
 use Rattle.ledger.specs.State.{Sized, InOrder}
-use Rattle.ledger.proofs.InOrder.{in-order}
+use Rattle.desk.proofs.InOrder.{in-order}
 use Rattle.edf.specs.Calls.{resting}
 use Rattle.desk.specs.State.{book, with, rewritten}
 use Rattle.desk.specs.Calls.{restLines, restOf}

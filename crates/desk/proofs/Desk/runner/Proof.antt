@@ -1,6 +1,6 @@
 -- `desk::Desk::runner` meets its contract: nobody where there is no next step, else whom serving finds foremost.
 use mathlib.Core.Path.{_≡_, sym, ap, _∙_}
-use mathlib.Core.Bool.{true, false, not}
+use mathlib.Core.Bool.{true, not}
 use lib.Dec.{ltb}
 use borrow.Author.Needs.{needs}
 use borrow.Author.Tests.{not-true, not-false}
@@ -8,20 +8,20 @@ use Rattle.lists.proofs.Places.{length-mapped}
 use Rattle.ticks.specs.Ticks.{lastInstant}
 use Rattle.edf.specs.Step.{runner}
 use Rattle.answers.specs.declared.Who.the-variants.{Idle}
-use Rattle.answers.specs.Answers.{firstOf, onYes}
+use Rattle.answers.specs.Answers.{onYes}
 use Rattle.answers.proofs.Answers.{stops, goes-on, no-line}
-use Rattle.ledger.specs.State.{Sized, inOrder}
+use Rattle.ledger.specs.State.{Sized}
 use Rattle.ledger.specs.Books.{whoIs}
-use Rattle.ledger.proofs.InOrder.{in-order}
-use Rattle.desk.specs.State.{book}
-use Rattle.desk.specs.Calls.{runnerOf, stepLines}
+use Rattle.desk.proofs.InOrder.{in-order}
+use Rattle.desk.specs.State.{book, inOrder}
+use Rattle.desk.specs.Calls.{runnerOf}
 use Rattle.desk.proofs.Desk.runner.Statement.{statement}
 use Rattle.desk.proofs.Desk.runner.Tie as tie
 
 sized : (c : tie.Start) → Sized (c .args .self .ledger)
 sized c = record { feeds = search (needs, length-mapped); jobs = search (needs, length-mapped) }
 
-fine : (c : tie.Else1) → inOrder (c .before .before .args .self .ledger) ≡ true
+fine : (c : tie.Else1) → inOrder (c .before .before .args .self) ≡ true
 fine c = sym (c .before .in-order .ensures) ∙ not-false _ (c .if1 .left)
 
 -- whether the clock can go on

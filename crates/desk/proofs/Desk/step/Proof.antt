@@ -1,14 +1,12 @@
 -- `desk::Desk::step` meets its contract: line 13, then the step of a state in order.
-use mathlib.Core.Path.{_≡_, refl, sym, ap, _∙_}
-use mathlib.Core.Bool.{true, not}
+use mathlib.Core.Path.{_≡_, sym, ap, _∙_}
+use mathlib.Core.Bool.{true}
 use borrow.Author.Needs.{needs}
 use borrow.Author.Tests.{not-true, not-false}
 use Rattle.lists.proofs.Places.{length-mapped}
-use Rattle.answers.proofs.Answers.{stops, goes-on}
-use Rattle.ledger.specs.State.{Sized, inOrder}
-use Rattle.ledger.proofs.InOrder.{in-order}
-use Rattle.serving.specs.Tick.{steppedOf}
-use Rattle.desk.specs.Calls.{stepOf}
+use Rattle.ledger.specs.State.{Sized}
+use Rattle.desk.specs.State.{inOrder}
+use Rattle.desk.proofs.InOrder.{in-order}
 use Rattle.desk.proofs.Calls.{step-stopped, steppedDesk, step-by-serving}
 use Rattle.desk.proofs.Desk.step.Statement.{statement}
 use Rattle.desk.proofs.Desk.step.Tie as tie
@@ -16,7 +14,7 @@ use Rattle.desk.proofs.Desk.step.Tie as tie
 sized : (c : tie.Start) → Sized (c .args .self .ledger)
 sized c = record { feeds = search (needs, length-mapped); jobs = search (needs, length-mapped) }
 
-fine : (c : tie.Else1) → inOrder (c .before .before .args .self .ledger) ≡ true
+fine : (c : tie.Else1) → inOrder (c .before .before .args .self) ≡ true
 fine c = sym (c .before .in-order .ensures) ∙ not-false _ (c .if1 .left)
 
 returns : tie.Need-returns
