@@ -4,7 +4,7 @@
 mod desk;
 mod plain;
 
-use desk::Desk;
+use desk::{Answer, Desk};
 use std::hint::black_box;
 use std::io::{Read, Write};
 use std::process::{Command, Stdio};
@@ -77,9 +77,12 @@ fn feeds(count: usize, early: u32) -> Vec<u32> {
     periods[..count].iter().flat_map(|&period| [period, work(period), 0, period - period * early / 100]).collect()
 }
 
-/// A desk with so many feeds and jobs, under a charge.
+/// The smallest share there is, so that a job with no date is due about as far ahead as the others that are asked for.
+const SHARE: (u32, u32) = (1, desk::HIGHEST_Q);
+
+/// A desk with so many feeds and jobs, under a charge, with a share.
 fn with_jobs(feed_count: usize, jobs: u32, charge: u32, early: u32) -> Desk {
-    let opened = Desk::open(&feeds(feed_count, early), 0, charge);
+    let opened = Desk::open_shared(&feeds(feed_count, early), 0, charge, SHARE.0, SHARE.1);
     assert_eq!(opened.refusal, 0, "{feed_count} feeds, charge {charge}, early {early}");
     let mut desk = opened.desk;
     for number in 1..=jobs {
@@ -90,21 +93,30 @@ fn with_jobs(feed_count: usize, jobs: u32, charge: u32, early: u32) -> Desk {
     desk
 }
 
-fn asking(state: &Desk, name: &str, work: u32, lead: u32, refusal: u32) {
+/// A call that hands a state back, with the refusal that it should give.
+fn answering(state: &Desk, name: &str, refusal: u32, call: impl Fn(Desk) -> Answer, plain: impl Fn(&mut Desk) -> u32) {
     let mut other = *state;
-    let answer = state.ask(900, work, lead);
+    let answer = call(*state);
     assert_eq!(answer.refusal, refusal, "{name}");
-    assert_eq!(plain::ask(&mut other, 900, work, lead), refusal, "{name}, plain");
+    assert_eq!(plain(&mut other), refusal, "{name}, plain");
     assert!(answer.desk == other, "{name}, the state");
     let library = time(|| {
-        black_box(black_box(*state).ask(900, work, lead));
+        black_box(call(black_box(*state)));
     });
     let own = time(|| {
         let mut desk = black_box(*state);
-        plain::ask(&mut desk, 900, work, lead);
+        plain(&mut desk);
         black_box(&desk);
     });
     row(name, library, own);
+}
+
+fn asking(state: &Desk, name: &str, work: u32, lead: u32, refusal: u32) {
+    answering(state, name, refusal, |desk| desk.ask(900, work, lead), |desk| plain::ask(desk, 900, work, lead));
+}
+
+fn asking_undated(state: &Desk, name: &str, work: u32, refusal: u32) {
+    answering(state, name, refusal, |desk| desk.ask_undated(900, work), |desk| plain::ask_undated(desk, 900, work));
 }
 
 fn calls(feed_count: usize, jobs: u32, charge: u32, early: u32) {
@@ -115,6 +127,7 @@ fn calls(feed_count: usize, jobs: u32, charge: u32, early: u32) {
     asking(&state, &at("ask taken"), 10, 20_000, 0);
     asking(&state, &at("ask refused near"), 3, 2, 6);
     asking(&state, &at("ask refused far"), 30_000, 30_000 - 1, 6);
+    asking_undated(&state, &at("undated ask taken"), 20, 0);
     let (step, mut other) = (state.step(), state);
     assert_eq!(plain::step(&mut other), (step.refusal, step.kind, step.number), "{}", at("step"));
     assert!(step.desk == other, "{}, the state", at("step"));
@@ -128,18 +141,8 @@ fn calls(feed_count: usize, jobs: u32, charge: u32, early: u32) {
     });
     row(&at("step"), library, own);
     if jobs > 0 {
-        let (answer, mut other) = (state.end(jobs / 2 + 1), state);
-        assert_eq!(plain::end(&mut other, jobs / 2 + 1), answer.refusal, "{}", at("end"));
-        assert!(answer.desk == other, "{}, the state", at("end"));
-        let library = time(|| {
-            black_box(black_box(state).end(jobs / 2 + 1));
-        });
-        let own = time(|| {
-            let mut desk = black_box(state);
-            plain::end(&mut desk, jobs / 2 + 1);
-            black_box(&desk);
-        });
-        row(&at("end"), library, own);
+        let number = jobs / 2 + 1;
+        answering(&state, &at("end"), 0, |desk| desk.end(number), |desk| plain::end(desk, number));
     }
     let (mut buffer, mut places) = ([0; desk::NUMBERS_A_JOB * desk::MOST_JOBS], [0; desk::NUMBERS_A_JOB * desk::MOST_JOBS]);
     let listed = state.list(&mut buffer);

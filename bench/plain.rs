@@ -1,8 +1,8 @@
 //! A plain hand-written desk for comparison: the same checks of the state and the same walk back from the far end, as one
 //! writes them in Rust without proofs. It works on a borrowed state and copies nothing.
 
-use crate::desk::{Desk, Feed, Job};
-use crate::desk::{HIGHEST_CHARGE, LAST_INSTANT, LONGEST_LEAD, LONGEST_PERIOD, LONGEST_ROUND, LONGEST_WORK};
+use crate::desk::{Desk, Feed, Job, Share};
+use crate::desk::{HIGHEST_CHARGE, HIGHEST_Q, LAST_INSTANT, LONGEST_LEAD, LONGEST_PERIOD, LONGEST_ROUND, LONGEST_WORK};
 use crate::desk::{MOST_FEEDS, MOST_JOBS, NUMBERS_A_JOB};
 
 fn gcd(a: u64, b: u64) -> u64 {
@@ -128,8 +128,18 @@ fn figures_agree(jobs: &[Job]) -> bool {
     })
 }
 
+/// A share, or none at all.
+fn share_in_order(share: &Share) -> bool {
+    *share == Share::default() || (1..=share.q).contains(&share.p) && share.q <= HIGHEST_Q
+}
+
 fn in_order(desk: &Desk) -> bool {
-    desk.clock <= LAST_INSTANT && desk.charge <= HIGHEST_CHARGE && feeds_in_order(desk) && jobs_in_order(desk)
+    desk.clock <= LAST_INSTANT
+        && desk.charge <= HIGHEST_CHARGE
+        && share_in_order(&desk.share)
+        && desk.previous <= LAST_INSTANT
+        && feeds_in_order(desk)
+        && jobs_in_order(desk)
 }
 
 /// What the live jobs due by an instant owe together: what the last of them shows.
@@ -176,7 +186,30 @@ pub fn ask(desk: &mut Desk, number: u32, work: u32, lead: u32) -> u32 {
     if !in_order(desk) {
         return 13;
     }
-    let (work, lead) = (u64::from(work), u64::from(lead));
+    asked(desk, number, work.into(), lead.into())
+}
+
+pub fn ask_undated(desk: &mut Desk, number: u32, work: u32) -> u32 {
+    if !in_order(desk) {
+        return 13;
+    }
+    if number == 0 {
+        return 1;
+    }
+    if desk.share == Share::default() {
+        return 19;
+    }
+    let (p, q, work) = (u64::from(desk.share.p), u64::from(desk.share.q), u64::from(work));
+    let deadline = desk.clock.max(desk.previous) + ((work + desk.charge) * q + p - 1) / p;
+    let refusal = asked(desk, number, work, deadline - desk.clock);
+    if refusal == 0 {
+        desk.previous = deadline;
+    }
+    refusal
+}
+
+/// An ask of a state in order.
+fn asked(desk: &mut Desk, number: u32, work: u64, lead: u64) -> u32 {
     if number == 0 {
         return 1;
     }

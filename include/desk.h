@@ -5,7 +5,7 @@
  * Lists are lent for the length of the call; a list of length 0 still needs a place that is not null.
  *
  * Nothing is kept between calls and there is no global state: any number of threads may call at once, each with its own
- * state. A call takes 7 to 27 KB of stack, the states that go in and come back by value among it, and no other memory.
+ * state. A call takes 12 to 30 KB of stack, the states that go in and come back by value among it, and no other memory.
  *
  * Beside each call stand its refusals, in the order in which they are looked for: the first that holds is given. */
 #ifndef DESK_H
@@ -19,14 +19,14 @@ extern "C" {
 #endif
 
 /* One more with every change of a struct, a call or a number below, or of what makes a state one in order. */
-#define DESK_VERSION 5
+#define DESK_VERSION 6
 
 /* An instant is a reading of the clock, a whole number of ticks; this is the last one, 2 to the 40th. */
 #define DESK_LAST_INSTANT UINT64_C(1099511627776)
 
 /* The other limits. Lengths are in ticks; each goes from 1, but for an offset, which goes from 0 to its period less 1, and
  * a charge, which goes from 0. A feed's deadline length goes to its period. A work is within its limit without the
- * charge. */
+ * charge. A share p/q is no length: its p goes from 1 to its q. */
 enum {
     DESK_MOST_JOBS = 64,          /* live at once */
     DESK_MOST_FEEDS = 16,
@@ -34,7 +34,8 @@ enum {
     DESK_LONGEST_LEAD = 65536,    /* of a job */
     DESK_LONGEST_PERIOD = 40320,  /* of a feed; its work is within the same limit */
     DESK_LONGEST_ROUND = 40320,   /* the least common multiple of the periods, 1 with no feeds */
-    DESK_HIGHEST_CHARGE = 16      /* what each job and each piece owes beside its work */
+    DESK_HIGHEST_CHARGE = 16,     /* what each job and each piece owes beside its work */
+    DESK_HIGHEST_Q = 1000         /* of a share p/q */
 };
 
 /* How many numbers or bytes there are of each thing in a lent list. */
@@ -66,7 +67,8 @@ enum {
     DESK_SHORT_FRONT = 15,        /* fewer than 84 bytes lent of a mesh file */
     DESK_WRONG_LENGTH = 16,       /* a mesh file's length is not 84 and 50 for each of its triangles */
     DESK_NO_TRIANGLES = 17,       /* a mesh without triangles */
-    DESK_CHARGE_TOO_HIGH = 18     /* a charge above 16 */
+    DESK_CHARGE_TOO_HIGH = 18,    /* a charge above 16 */
+    DESK_NO_SHARE = 19            /* a share with p or q zero, p above q or q above 1,000; no share to ask by */
 };
 
 /* Whom a tick went to. */
@@ -108,13 +110,24 @@ typedef struct DeskTable {
     DeskJob jobs[DESK_MOST_JOBS];
 } DeskTable;
 
+/* The share of the processor that exports with no date may count on: `p` ticks of every `q`. Both 0 where the opening
+ * carried none. */
+typedef struct DeskShare {
+    uint32_t p;
+    uint32_t q;
+} DeskShare;
+
 /* The state of a box. The `charge` is what each job and each piece owes beside its work, as the converter reloads its
- * buffers: once, never again at a switch. All zero is the empty state: clock 0, charge 0, no feeds, no jobs. */
+ * buffers: once, never again at a switch. `previous` is the deadline of the export with no date that was taken last, 0
+ * before the first; it stays when that job has left or was ended. All zero is the empty state: clock 0, charge 0, no feeds,
+ * no jobs, no share. */
 typedef struct Desk {
     uint64_t clock;
     uint64_t charge;
     DeskFeeds feeds;
     DeskTable table;
+    DeskShare share;
+    uint64_t previous;
 } Desk;
 
 /* The state that a call hands back, and its refusal or DESK_YES. A refused opening hands back the empty state. */
@@ -189,14 +202,19 @@ DESK_PLACE(DeskJob, figure, 24);
 DESK_SIZE(DeskTable, 2056);
 DESK_PLACE(DeskTable, count, 0);
 DESK_PLACE(DeskTable, jobs, 8);
-DESK_SIZE(Desk, 2720);
+DESK_SIZE(DeskShare, 8);
+DESK_PLACE(DeskShare, p, 0);
+DESK_PLACE(DeskShare, q, 4);
+DESK_SIZE(Desk, 2736);
 DESK_PLACE(Desk, clock, 0);
 DESK_PLACE(Desk, charge, 8);
 DESK_PLACE(Desk, feeds, 16);
 DESK_PLACE(Desk, table, 664);
-DESK_SIZE(DeskAnswer, 2728);
+DESK_PLACE(Desk, share, 2720);
+DESK_PLACE(Desk, previous, 2728);
+DESK_SIZE(DeskAnswer, 2744);
 DESK_PLACE(DeskAnswer, desk, 0);
-DESK_PLACE(DeskAnswer, refusal, 2720);
+DESK_PLACE(DeskAnswer, refusal, 2736);
 DESK_SIZE(DeskReason, 48);
 DESK_PLACE(DeskReason, refusal, 0);
 DESK_PLACE(DeskReason, at, 8);
@@ -204,12 +222,12 @@ DESK_PLACE(DeskReason, jobs, 16);
 DESK_PLACE(DeskReason, feeds, 24);
 DESK_PLACE(DeskReason, job, 32);
 DESK_PLACE(DeskReason, margin, 40);
-DESK_SIZE(DeskStepped, 2744);
+DESK_SIZE(DeskStepped, 2760);
 DESK_PLACE(DeskStepped, desk, 0);
-DESK_PLACE(DeskStepped, refusal, 2720);
-DESK_PLACE(DeskStepped, kind, 2724);
-DESK_PLACE(DeskStepped, number, 2728);
-DESK_PLACE(DeskStepped, owes, 2736);
+DESK_PLACE(DeskStepped, refusal, 2736);
+DESK_PLACE(DeskStepped, kind, 2740);
+DESK_PLACE(DeskStepped, number, 2744);
+DESK_PLACE(DeskStepped, owes, 2752);
 DESK_SIZE(DeskListed, 8);
 DESK_PLACE(DeskListed, refusal, 0);
 DESK_PLACE(DeskListed, count, 4);
@@ -226,6 +244,10 @@ DESK_PLACE(DeskLabel, length, 16);
  * then on each job and each piece owes `charge` ticks beside its work. 12, 8, 3 (`start`), 18, 2, 9, 10. */
 DeskAnswer desk_open(const uint32_t *list, size_t length, uint64_t start, uint32_t charge);
 
+/* The opening that carries a share `p`/`q` for exports with no date, which `desk_open` does not. It is not held against what
+ * the feeds want. 12, 8, 3 (`start`), 18, 19, 2, 9, 10. */
+DeskAnswer desk_open_shared(const uint32_t *list, size_t length, uint64_t start, uint32_t charge, uint32_t p, uint32_t q);
+
 /* Asks for a job of `work` ticks, beside which it owes the charge, within `lead` ticks from now: taken exactly if it,
  * everything promised and every piece to come can still be done in time. 13, 1, 2, 3 (its deadline), 4, 5, 6. */
 DeskAnswer desk_ask(Desk desk, uint32_t number, uint32_t work, uint32_t lead);
@@ -235,6 +257,13 @@ DeskAnswer desk_ask(Desk desk, uint32_t number, uint32_t work, uint32_t lead);
  * 4 ticks, to 99,999 16, to 999,999 120, to 9,999,999 900, to 99,999,999 8,000, and above that 65,536. The ordinary ask
  * follows, the charge on top. 13, 15, 16, 17, 1, 2, 3 (its deadline), 4, 5, 6. */
 DeskAnswer desk_ask_mesh(Desk desk, const uint8_t *head, size_t lent, uint64_t size, uint32_t number, uint32_t lead);
+
+/* Asks for a job with no date. It is due as many ticks after the previous one's deadline, or after now if that is later, as
+ * its work and the charge take at the share, rounded up; the ordinary ask follows, and a yes makes its deadline the
+ * previous one. It never gets 6 where since the opening no job with a lead of its own was taken, every piece is due when
+ * the next one comes, and what the feeds want of the processor, charges and all, and the share are at most 1 together.
+ * 13, 1, 19 (no share), 2 (its work, or how far ahead it would be due), 3 (its deadline), 4, 5, 6. */
+DeskAnswer desk_ask_undated(Desk desk, uint32_t number, uint32_t work);
 
 /* Tells why a job would be refused, or how near it comes to that; nothing is changed. 13, 1, 2, 3, 4, 5, 6, as asking. */
 DeskReason desk_why(Desk desk, uint32_t number, uint32_t work, uint32_t lead);

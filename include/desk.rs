@@ -6,7 +6,7 @@
 // A program uses what it needs.
 #![allow(dead_code)]
 
-pub const VERSION: u32 = 5;
+pub const VERSION: u32 = 6;
 
 pub const LAST_INSTANT: u64 = 1 << 40;
 pub const MOST_JOBS: usize = 64;
@@ -16,6 +16,7 @@ pub const LONGEST_LEAD: u64 = 65_536;
 pub const LONGEST_PERIOD: u64 = 40_320;
 pub const LONGEST_ROUND: u64 = 40_320;
 pub const HIGHEST_CHARGE: u64 = 16;
+pub const HIGHEST_Q: u32 = 1_000;
 
 pub const NUMBERS_A_FEED: usize = 4;
 pub const NUMBERS_A_JOB: usize = 4;
@@ -41,6 +42,7 @@ pub const SHORT_FRONT: u32 = 15;
 pub const WRONG_LENGTH: u32 = 16;
 pub const NO_TRIANGLES: u32 = 17;
 pub const CHARGE_TOO_HIGH: u32 = 18;
+pub const NO_SHARE: u32 = 19;
 
 pub const IDLE: u32 = 0;
 pub const JOB: u32 = 1;
@@ -93,11 +95,20 @@ impl Default for Table {
 
 #[derive(Clone, Copy, Debug, Default, PartialEq, Eq)]
 #[repr(C)]
+pub struct Share {
+    pub p: u32,
+    pub q: u32,
+}
+
+#[derive(Clone, Copy, Debug, Default, PartialEq, Eq)]
+#[repr(C)]
 pub struct Desk {
     pub clock: u64,
     pub charge: u64,
     pub feeds: Feeds,
     pub table: Table,
+    pub share: Share,
+    pub previous: u64,
 }
 
 #[derive(Clone, Copy, Debug, Default, PartialEq, Eq)]
@@ -147,8 +158,10 @@ pub struct Label {
 #[rustfmt::skip]
 extern "C" {
     fn desk_open(list: *const u32, length: usize, start: u64, charge: u32) -> Answer;
+    fn desk_open_shared(list: *const u32, length: usize, start: u64, charge: u32, p: u32, q: u32) -> Answer;
     fn desk_ask(desk: Desk, number: u32, work: u32, lead: u32) -> Answer;
     fn desk_ask_mesh(desk: Desk, head: *const u8, lent: usize, size: u64, number: u32, lead: u32) -> Answer;
+    fn desk_ask_undated(desk: Desk, number: u32, work: u32) -> Answer;
     fn desk_why(desk: Desk, number: u32, work: u32, lead: u32) -> Reason;
     fn desk_step(desk: Desk) -> Stepped;
     fn desk_end(desk: Desk, number: u32) -> Answer;
@@ -164,12 +177,20 @@ impl Desk {
         unsafe { desk_open(list.as_ptr(), list.len(), start, charge) }
     }
 
+    pub fn open_shared(list: &[u32], start: u64, charge: u32, p: u32, q: u32) -> Answer {
+        unsafe { desk_open_shared(list.as_ptr(), list.len(), start, charge, p, q) }
+    }
+
     pub fn ask(self, number: u32, work: u32, lead: u32) -> Answer {
         unsafe { desk_ask(self, number, work, lead) }
     }
 
     pub fn ask_mesh(self, head: &[u8], size: u64, number: u32, lead: u32) -> Answer {
         unsafe { desk_ask_mesh(self, head.as_ptr(), head.len(), size, number, lead) }
+    }
+
+    pub fn ask_undated(self, number: u32, work: u32) -> Answer {
+        unsafe { desk_ask_undated(self, number, work) }
     }
 
     pub fn why(self, number: u32, work: u32, lead: u32) -> Reason {

@@ -1,5 +1,5 @@
 /* A desk from C: opens with two feeds, asks and asks why, rests, steps and lists, asks with a mesh file, opens under a
- * charge, and opens with layers that are due before the next. */
+ * charge, opens with layers that are due before the next, and opens with a share and asks with no date. */
 #include "desk.h"
 
 #include <stdio.h>
@@ -44,6 +44,10 @@ static void asked_why(Desk desk, uint32_t number, uint32_t work, uint32_t lead) 
 static Desk asked_with_mesh(Desk desk, uint64_t size, uint32_t number, uint32_t lead) {
     static const uint8_t head[DESK_BYTES_OF_FRONT] = {[80] = 0x39, [81] = 0x30};
     return told(number, desk_ask_mesh(desk, head, sizeof head, size, number, lead));
+}
+
+static Desk asked_undated(Desk desk, uint32_t number, uint32_t work) {
+    return told(number, desk_ask_undated(desk, number, work));
 }
 
 static Desk stepped(Desk desk) {
@@ -109,5 +113,11 @@ int main(void) {
     asked_why(opened(by_the_next, 1), 1, 3, 6); /* each piece and the job owe 1 more: what fitted does not */
     opened(by_the_next, DESK_HIGHEST_CHARGE + 1);
     asked_why(opened(soon, 0), 1, 3, 6); /* the first one's second layer is due by then too: what fitted does not */
+    asked_undated(opened(by_the_next, 0), 1, 3); /* an opening that carries no share */
+    DeskAnswer shared = desk_open_shared(by_the_next, TWO_FEEDS, 0, 0, 5, 12); /* all that the two printers leave */
+    printf("open with share 5/12: %u\n", shared.refusal);
+    desk = asked_undated(shared.desk, 1, 3);
+    desk = asked_undated(desk, 2, 2); /* its time begins where that of job 1 ends */
+    listed(desk);
     return 0;
 }

@@ -46,6 +46,10 @@ fn asked_with_mesh(desk: Desk, size: u64, number: u32, lead: u32) -> Desk {
     told(number, desk.ask_mesh(&head, size, number, lead))
 }
 
+fn asked_undated(desk: Desk, number: u32, work: u32) -> Desk {
+    told(number, desk.ask_undated(number, work))
+}
+
 fn stepped(desk: Desk) -> Desk {
     let step = desk.step();
     let (number, owes) = (step.number, step.owes);
@@ -104,4 +108,10 @@ fn main() {
     asked_why(opened(&BY_THE_NEXT, 1), 1, 3, 6); // each piece and the job owe 1 more: what fitted does not
     opened(&BY_THE_NEXT, desk::HIGHEST_CHARGE as u32 + 1);
     asked_why(opened(&SOON, 0), 1, 3, 6); // the first one's second layer is due by then too: what fitted does not
+    asked_undated(opened(&BY_THE_NEXT, 0), 1, 3); // an opening that carries no share
+    let shared = Desk::open_shared(&BY_THE_NEXT, 0, 0, 5, 12); // all that the two printers leave
+    println!("open with share 5/12: {}", shared.refusal);
+    desk = asked_undated(shared.desk, 1, 3);
+    desk = asked_undated(desk, 2, 2); // its time begins where that of job 1 ends
+    listed(desk);
 }

@@ -6,6 +6,18 @@
 
 #include "desk.h"
 
-enum { CALL_OPEN = 1, CALL_ASK, CALL_STEP, CALL_END, CALL_REST, CALL_LIST, CALL_LABEL, CALL_ASK_MESH, CALL_WHY };
+enum {
+    CALL_OPEN = 1,
+    CALL_ASK,
+    CALL_STEP,
+    CALL_END,
+    CALL_REST,
+    CALL_LIST,
+    CALL_LABEL,
+    CALL_ASK_MESH,
+    CALL_WHY,
+    CALL_OPEN_SHARED,
+    CALL_ASK_UNDATED
+};
 
 #endif

@@ -42,6 +42,17 @@ static void opening(void) {
     free(list);
 }
 
+static void opening_with_share(void) {
+    size_t size;
+    uint32_t *list = get_list(&size);
+    uint64_t start;
+    get(&start, sizeof start);
+    uint32_t charge = get_number(), p = get_number(), q = get_number();
+    DeskAnswer answer = desk_open_shared(list, size / sizeof *list, start, charge, p, q);
+    put(&answer, sizeof answer);
+    free(list);
+}
+
 static void asking(Desk desk) {
     uint32_t number = get_number(), work = get_number(), lead = get_number();
     DeskAnswer answer = desk_ask(desk, number, work, lead);
@@ -57,6 +68,12 @@ static void asking_with_mesh(Desk desk) {
     DeskAnswer answer = desk_ask_mesh(desk, head, lent, size, number, lead);
     put(&answer, sizeof answer);
     free(head);
+}
+
+static void asking_undated(Desk desk) {
+    uint32_t number = get_number(), work = get_number();
+    DeskAnswer answer = desk_ask_undated(desk, number, work);
+    put(&answer, sizeof answer);
 }
 
 static void telling_why(Desk desk) {
@@ -93,7 +110,7 @@ int main(void) {
         uint32_t call = get_number();
         Desk desk;
         DeskAnswer answer;
-        if (call != CALL_OPEN)
+        if (call != CALL_OPEN && call != CALL_OPEN_SHARED)
             get(&desk, sizeof desk);
         switch (call) {
         case CALL_OPEN: opening(); break;
@@ -105,6 +122,8 @@ int main(void) {
         case CALL_LABEL: labelling(desk); break;
         case CALL_ASK_MESH: asking_with_mesh(desk); break;
         case CALL_WHY: telling_why(desk); break;
+        case CALL_OPEN_SHARED: opening_with_share(); break;
+        case CALL_ASK_UNDATED: asking_undated(desk); break;
         default: exit(1);
         }
         fflush(stdout);

@@ -76,6 +76,18 @@ DeskAnswer desk_open(const uint32_t *list, size_t length, uint64_t start, uint32
     return opened;
 }
 
+DeskAnswer desk_open_shared(const uint32_t *list, size_t length, uint64_t start, uint32_t charge, uint32_t p, uint32_t q) {
+    DeskAnswer opened;
+    call(CALL_OPEN_SHARED, NULL);
+    put_list(list, length * sizeof *list);
+    put(&start, sizeof start);
+    put(&charge, sizeof charge);
+    put(&p, sizeof p);
+    put(&q, sizeof q);
+    answer(&opened, sizeof opened);
+    return opened;
+}
+
 DeskAnswer desk_ask(Desk desk, uint32_t number, uint32_t work, uint32_t lead) {
     DeskAnswer asked;
     call(CALL_ASK, &desk);
@@ -93,6 +105,15 @@ DeskAnswer desk_ask_mesh(Desk desk, const uint8_t *head, size_t lent, uint64_t s
     put(&size, sizeof size);
     put(&number, sizeof number);
     put(&lead, sizeof lead);
+    answer(&asked, sizeof asked);
+    return asked;
+}
+
+DeskAnswer desk_ask_undated(Desk desk, uint32_t number, uint32_t work) {
+    DeskAnswer asked;
+    call(CALL_ASK_UNDATED, &desk);
+    put(&number, sizeof number);
+    put(&work, sizeof work);
     answer(&asked, sizeof asked);
     return asked;
 }

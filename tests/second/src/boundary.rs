@@ -3,13 +3,15 @@
 #[path = "../../../include/desk.rs"]
 mod desk;
 
-pub use desk::{Answer, Desk, Feed, Job, Label, Listed, Reason, Stepped};
+pub use desk::{Answer, Desk, Feed, Job, Label, Listed, Reason, Share, Stepped};
 
 /// The calls, whoever answers them.
 pub trait Library {
     fn open(&self, list: &[u32], start: u64, charge: u32) -> Answer;
+    fn open_shared(&self, list: &[u32], start: u64, charge: u32, share: Share) -> Answer;
     fn ask(&self, desk: Desk, number: u32, work: u32, lead: u32) -> Answer;
     fn ask_mesh(&self, desk: Desk, head: &[u8], size: u64, number: u32, lead: u32) -> Answer;
+    fn ask_undated(&self, desk: Desk, number: u32, work: u32) -> Answer;
     fn why(&self, desk: Desk, number: u32, work: u32, lead: u32) -> Reason;
     fn step(&self, desk: Desk) -> Stepped;
     fn end(&self, desk: Desk, number: u32) -> Answer;
@@ -27,11 +29,17 @@ impl Library for Linked {
     fn open(&self, list: &[u32], start: u64, charge: u32) -> Answer {
         Desk::open(list, start, charge)
     }
+    fn open_shared(&self, list: &[u32], start: u64, charge: u32, share: Share) -> Answer {
+        Desk::open_shared(list, start, charge, share.p, share.q)
+    }
     fn ask(&self, desk: Desk, number: u32, work: u32, lead: u32) -> Answer {
         desk.ask(number, work, lead)
     }
     fn ask_mesh(&self, desk: Desk, head: &[u8], size: u64, number: u32, lead: u32) -> Answer {
         desk.ask_mesh(head, size, number, lead)
+    }
+    fn ask_undated(&self, desk: Desk, number: u32, work: u32) -> Answer {
+        desk.ask_undated(number, work)
     }
     fn why(&self, desk: Desk, number: u32, work: u32, lead: u32) -> Reason {
         desk.why(number, work, lead)

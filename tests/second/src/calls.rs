@@ -1,9 +1,9 @@
 //! Random calls, answered by this program and by a library, compared whole:
 //! the answer, every field of the state handed back, every word of the buffers.
 
-use crate::boundary::{Answer, Desk, Feed, Job, Label, Library, Listed, Reason, Stepped};
+use crate::boundary::{Answer, Desk, Feed, Job, Label, Library, Listed, Reason, Share, Stepped};
 use crate::invent::{self, Mesh, Opening};
-use crate::model::{self, CHARGE_MOST, JOB_LENGTH_MOST, LAST_INSTANT};
+use crate::model::{self, CHARGE_MOST, DOES_NOT_FIT, JOB_LENGTH_MOST, LAST_INSTANT};
 use crate::own::{rank, read, write, Own};
 use crate::random::Random;
 use crate::workers;
@@ -31,7 +31,7 @@ fn report(seed: u64, outcome: Result<Tally, String>) -> bool {
     match outcome {
         Ok(tally) => {
             for ((call, refusal), times) in &tally {
-                println!("{call:5} {refusal:2}: {times}");
+                println!("{call:7} {refusal:2}: {times}");
             }
             let calls: u64 = tally.values().sum();
             println!("seed {seed}: {calls} calls compared, no difference");
@@ -51,6 +51,7 @@ enum Call {
     Open(Opening),
     Ask { number: u32, work: u32, lead: u32 },
     AskMesh { mesh: Mesh, number: u32, lead: u32 },
+    AskUndated { number: u32, work: u32 },
     Why { number: u32, work: u32, lead: u32 },
     Step,
     End { number: u32 },
@@ -87,16 +88,23 @@ fn unwritten() -> Vec<u64> {
 
 fn make(library: &dyn Library, desk: Desk, call: &Call) -> Said {
     match call {
-        Call::Open(Opening {
-            list,
-            start,
-            charge,
-        }) => Said::Answer(library.open(list, *start, *charge)),
+        Call::Open(opening) => {
+            let Opening { start, charge, .. } = *opening;
+            Said::Answer(match opening.share {
+                Some(model::Share { p, q }) => {
+                    library.open_shared(&opening.list, start, charge, Share { p, q })
+                }
+                None => library.open(&opening.list, start, charge),
+            })
+        }
         Call::Ask { number, work, lead } => Said::Answer(library.ask(desk, *number, *work, *lead)),
         Call::AskMesh { mesh, number, lead } => {
             let head = mesh.head.clone();
             let answer = library.ask_mesh(desk, &head, mesh.size, *number, *lead);
             Said::Mesh(answer, head)
+        }
+        Call::AskUndated { number, work } => {
+            Said::Answer(library.ask_undated(desk, *number, *work))
         }
         Call::Why { number, work, lead } => Said::Reason(library.why(desk, *number, *work, *lead)),
         Call::Step => Said::Stepped(library.step(desk)),
@@ -117,9 +125,11 @@ fn make(library: &dyn Library, desk: Desk, call: &Call) -> Said {
 
 fn name(call: &Call) -> &'static str {
     match call {
-        Call::Open(_) => "open",
+        Call::Open(Opening { share: None, .. }) => "open",
+        Call::Open(_) => "shared",
         Call::Ask { .. } => "ask",
         Call::AskMesh { .. } => "mesh",
+        Call::AskUndated { .. } => "undated",
         Call::Why { .. } => "why",
         Call::Step => "step",
         Call::End { .. } => "end",
@@ -145,6 +155,7 @@ fn refusal(said: &Said) -> u32 {
 // ---------------------------------------------------------------- the walk
 
 struct Walk<'a> {
+    own: &'a dyn Library,
     library: &'a dyn Library,
     random: Random,
     tally: Tally,
@@ -176,41 +187,67 @@ fn in_parts(library: &(dyn Library + Sync), seed: u64, count: u64) -> Result<Tal
 
 /// At least this many calls of a part; an error tells the first difference.
 pub fn compare(library: &dyn Library, seed: u64, part: u64, count: u64) -> Result<Tally, String> {
-    let random = Random::of(seed, part);
-    let mut walk = Walk {
-        library,
-        random,
-        tally: Tally::new(),
-        calls: 0,
-        lengths: 0,
-        fronts: 0,
-    };
+    let mut walk = Walk::new(&Own, library, seed, part);
     while walk.calls < count {
-        walk.walk_from_an_opening()?;
+        if walk.random.chance(15) {
+            walk.walk_with_undated_jobs_alone()?;
+        } else {
+            walk.walk_from_an_opening()?;
+        }
     }
     Ok(walk.tally)
 }
 
-impl Walk<'_> {
+/// At least this many calls in which no job is taken but with no date, on both of these; an
+/// error tells the first difference, or the first such ask that does not fit.
+#[cfg(test)]
+pub fn compare_undated_alone(
+    own: &dyn Library,
+    library: &dyn Library,
+    seed: u64,
+    count: u64,
+) -> Result<Tally, String> {
+    let mut walk = Walk::new(own, library, seed, 0);
+    while walk.calls < count {
+        walk.walk_with_undated_jobs_alone()?;
+    }
+    Ok(walk.tally)
+}
+
+impl<'a> Walk<'a> {
+    fn new(own: &'a dyn Library, library: &'a dyn Library, seed: u64, part: u64) -> Walk<'a> {
+        Walk {
+            own,
+            library,
+            random: Random::of(seed, part),
+            tally: Tally::new(),
+            calls: 0,
+            lengths: 0,
+            fronts: 0,
+        }
+    }
+
     /// One call to both; hands back the state to go on from.
     fn call(&mut self, desk: Desk, call: Call) -> Result<Desk, String> {
-        let ours = make(&Own, desk, &call);
-        let theirs = make(self.library, desk, &call);
+        let said = self.said(desk, &call)?;
+        *self.tally.entry((name(&call), refusal(&said))).or_default() += 1;
+        Ok(state_after(desk, &said))
+    }
+
+    /// What both say to a call.
+    fn said(&mut self, desk: Desk, call: &Call) -> Result<Said, String> {
+        let ours = make(self.own, desk, call);
+        let theirs = make(self.library, desk, call);
         if ours != theirs {
-            return Err(describe(&desk, &call, &ours, &theirs));
+            return Err(describe(&desk, call, &ours, &theirs));
         }
         self.calls += 1;
-        *self.tally.entry((name(&call), refusal(&ours))).or_default() += 1;
-        Ok(match ours {
-            Said::Answer(answer) | Said::Mesh(answer, _) => answer.desk,
-            Said::Stepped(stepped) => stepped.desk,
-            Said::Reason(_) | Said::Listed(..) | Said::Label(..) => desk,
-        })
+        Ok(ours)
     }
 
     fn walk_from_an_opening(&mut self) -> Result<(), String> {
         // Openings alone, as a walk is long and an opening has many refusals.
-        for _ in 0..self.random.below(10) {
+        for _ in 0..self.random.below(14) {
             let opening = some_opening(&mut self.random);
             self.call(Desk::default(), Call::Open(opening))?;
         }
@@ -225,7 +262,7 @@ impl Walk<'_> {
         }
         for _ in 0..self.random.between(5, 60) {
             desk = self.some_calls(desk)?;
-            if self.random.chance(30) {
+            if self.random.chance(40) {
                 self.on_a_damaged_copy(desk)?;
             }
             if self.random.chance(10) {
@@ -236,6 +273,9 @@ impl Walk<'_> {
             }
             if self.random.chance(15) {
                 self.on_a_copy_in_another_order(desk)?;
+            }
+            if self.random.chance(20) {
+                self.on_a_copy_with_another_share(desk)?;
             }
             if self.random.chance(25) {
                 self.meshes_on_an_empty_desk(desk.clock)?;
@@ -250,6 +290,55 @@ impl Walk<'_> {
         Ok(())
     }
 
+    /// From an opening with a share that its feeds leave it, each layer due when the next one
+    /// comes. Ends, rests, steps and refusals of every kind may stand between; but a job
+    /// that has a lead of its own is taken nowhere, and so no ask with no date may get 6.
+    fn walk_with_undated_jobs_alone(&mut self) -> Result<(), String> {
+        let opening = invent::undated_opening(&mut self.random);
+        let mut desk = self.call(Desk::default(), Call::Open(opening))?;
+        // Now and then each with a number of its own, to fill the table.
+        let crowds = self.random.chance(12);
+        let turns = match crowds {
+            true => 75,
+            false => self.random.between(5, 100) as u32,
+        };
+        for turn in 0..turns {
+            desk = match self.random.below(100) {
+                _ if crowds && self.random.chance(95) => {
+                    let (number, work) = (turn + 1, 1);
+                    self.undated_alone(desk, Call::AskUndated { number, work })?
+                }
+                0..=44 => {
+                    let call = self.some_undated(&to_ask_with(&desk));
+                    self.undated_alone(desk, call)?
+                }
+                45..=69 => self.some_steps(desk)?,
+                70..=74 => run_on(&mut self.random, desk),
+                _ => {
+                    let call = self.some_call(&desk);
+                    if is_taken_with_its_own_lead(desk, &call) {
+                        continue;
+                    }
+                    match call {
+                        Call::AskUndated { .. } => self.undated_alone(desk, call)?,
+                        _ => self.call(desk, call)?,
+                    }
+                }
+            }
+        }
+        Ok(())
+    }
+
+    /// An ask with no date that may not get 6, whoever says it.
+    fn undated_alone(&mut self, desk: Desk, call: Call) -> Result<Desk, String> {
+        let said = self.said(desk, &call)?;
+        if refusal(&said) == DOES_NOT_FIT {
+            return Err(format!("no date, and 6\n{}", about(&desk, &call, &said)));
+        }
+        *self.tally.entry(("alone", refusal(&said))).or_default() += 1;
+        Ok(state_after(desk, &said))
+    }
+
     /// Many small jobs with long leads, to fill the table.
     fn crowd(&mut self, mut desk: Desk) -> Result<Desk, String> {
         for number in (0..70).map(|job| 100 + job * 7 % 71) {
@@ -260,19 +349,21 @@ impl Walk<'_> {
         Ok(desk)
     }
 
-    /// A call on a state in order, or a short run of steps.
-    fn some_calls(&mut self, mut desk: Desk) -> Result<Desk, String> {
-        match self.random.below(100) {
-            0..=24 => {
-                for _ in 0..self.random.pick(&[1, 2, 5, 12]) {
-                    let before = desk;
-                    desk = self.call(desk, Call::Step)?;
-                    if desk == before {
-                        break; // Refused: it would be again.
-                    }
-                }
-                Ok(desk)
+    fn some_steps(&mut self, mut desk: Desk) -> Result<Desk, String> {
+        for _ in 0..self.random.pick(&[1, 2, 5, 12]) {
+            let before = desk;
+            desk = self.call(desk, Call::Step)?;
+            if desk == before {
+                break; // Refused: it would be again.
             }
+        }
+        Ok(desk)
+    }
+
+    /// A call on a state in order, or a short run of steps.
+    fn some_calls(&mut self, desk: Desk) -> Result<Desk, String> {
+        match self.random.below(100) {
+            0..=24 => self.some_steps(desk),
             25..=29 => Ok(run_on(&mut self.random, desk)),
             _ => {
                 let call = self.some_call(&desk);
@@ -282,10 +373,7 @@ impl Walk<'_> {
     }
 
     fn some_call(&mut self, desk: &Desk) -> Call {
-        // For a state that can't be read any arguments do.
-        let state = read(desk)
-            .filter(|state| state.in_order())
-            .unwrap_or_default();
+        let state = to_ask_with(desk);
         let random = &mut self.random;
         match random.below(100) {
             0..=24 => {
@@ -304,9 +392,17 @@ impl Walk<'_> {
             63..=70 => Call::Rest {
                 position: invent::position(random, &state),
             },
-            71..=85 => self.some_list(&state),
-            _ => self.some_label(&state),
+            71..=80 => self.some_list(&state),
+            81..=88 => self.some_label(&state),
+            _ => self.some_undated(&state),
         }
+    }
+
+    fn some_undated(&mut self, state: &model::Desk) -> Call {
+        let random = &mut self.random;
+        let number = invent::number(random, state);
+        let work = invent::undated_work(random, state) as u32;
+        Call::AskUndated { number, work }
     }
 
     fn some_mesh(&mut self, state: &model::Desk) -> Call {
@@ -379,8 +475,43 @@ impl Walk<'_> {
             ..Desk::default()
         };
         for _ in 0..self.random.between(1, 4) {
-            let call = self.some_mesh(&read(&desk).unwrap_or_default());
+            let call = self.some_mesh(&to_ask_with(&desk));
             desk = self.call(desk, call)?;
+        }
+        Ok(())
+    }
+
+    /// With any share there is, and a previous deadline that mostly is of some moment to a
+    /// job of a certain work, whatever else was promised.
+    fn on_a_copy_with_another_share(&mut self, desk: Desk) -> Result<(), String> {
+        let mut shared = desk;
+        if self.random.chance(30) {
+            overbook(&mut self.random, &mut shared);
+        } else if self.random.chance(50) {
+            move_on(&mut self.random, &mut shared);
+        }
+        let model::Share { p, q } = invent::share(&mut self.random);
+        shared.share = Share { p, q };
+        let state = to_ask_with(&shared);
+        let work = self.random.pick(&[1, 2, 3, 9, 60, 1_000]);
+        shared.previous = invent::another_previous(&mut self.random, &state, work);
+        if self.random.chance(70) {
+            let number = invent::number(&mut self.random, &state);
+            let work = work as u32;
+            shared = self.call(shared, Call::AskUndated { number, work })?;
+        }
+        if self.random.chance(30) {
+            match self.random.below(3) {
+                0 => another_previous(&mut self.random, &mut shared),
+                _ => another_share(&mut self.random, &mut shared),
+            }
+        }
+        for _ in 0..self.random.between(1, 5) {
+            let call = match self.random.below(3) {
+                0 => self.some_undated(&to_ask_with(&shared)),
+                _ => self.some_call(&shared),
+            };
+            shared = self.call(shared, call)?;
         }
         Ok(())
     }
@@ -391,9 +522,7 @@ impl Walk<'_> {
     fn reasons_on_a_moved_copy(&mut self, desk: Desk) -> Result<(), String> {
         let mut moved = desk;
         move_on(&mut self.random, &mut moved);
-        let state = read(&moved)
-            .filter(|state| state.in_order())
-            .unwrap_or_default();
+        let state = to_ask_with(&moved);
         let room = (LAST_INSTANT - state.clock).min(65_536);
         for _ in 0..self.random.between(1, 3) {
             let random = &mut self.random;
@@ -435,7 +564,7 @@ impl Walk<'_> {
             clock,
             charge,
             feeds: vec![feed],
-            jobs: Vec::new(),
+            ..model::Desk::default()
         };
         debug_assert!(state.in_order());
         for _ in 0..self.random.between(1, 4) {
@@ -510,7 +639,10 @@ impl Walk<'_> {
 /// An opening that mostly passes, else often with more than one thing wrong, as the
 /// order of refusals shows nowhere else.
 fn some_opening(random: &mut Random) -> Opening {
-    let mut opening = invent::opening(random);
+    let mut opening = match random.below(2) {
+        0 => invent::opening(random),
+        _ => invent::shared_opening(random),
+    };
     if random.chance(15) {
         spoil_list(random, &mut opening.list);
     }
@@ -520,7 +652,17 @@ fn some_opening(random: &mut Random) -> Opening {
     if opening.open().is_err() && random.chance(30) {
         opening.charge = random.pick(&invent::CHARGES_TOO_HIGH);
     }
+    if opening.share.is_some() && opening.open().is_err() && random.chance(50) {
+        opening.share = Some(invent::no_share(random));
+    }
     opening
+}
+
+/// The state that arguments are made for: where one is not in order any will do.
+fn to_ask_with(desk: &Desk) -> model::Desk {
+    read(desk)
+        .filter(|state| state.in_order())
+        .unwrap_or_default()
 }
 
 /// A number, a work and a lead to ask with.
@@ -545,19 +687,23 @@ fn run_on(random: &mut Random, desk: Desk) -> Desk {
 }
 
 fn spoil_list(random: &mut Random, list: &mut Vec<u32>) {
-    match random.below(9) {
+    match random.below(11) {
         0 => list.extend((0..random.between(1, 8)).map(|_| 1)),
         1 => {
             let any = random.index(80);
             list.resize(random.pick(&[any, 51, 64, 65, 67, 68, 68, 72]), 1);
         }
         2 => list.truncate(random.index(list.len() + 1)),
+        // More feeds than there are places.
+        10 => list.resize(random.pick(&[68, 72, 256]), 1),
         _ if list.is_empty() => list.push(4),
         // More work than the period has ticks.
         3 if list.len() % 4 == 0 => {
             let feed = 4 * random.index(list.len() / 4);
             list[feed + 1] = list[feed] + 1;
         }
+        // A period that makes the round too long.
+        9 if list.len() % 4 == 0 => list.extend([40_319, 1, 0, 40_319]),
         // A deadline length at or over its limits.
         4..=6 if list.len() % 4 == 0 => {
             let feed = 4 * random.index(list.len() / 4);
@@ -726,7 +872,7 @@ fn move_on(random: &mut Random, desk: &mut Desk) {
 
 /// One thing wrong; sometimes one field set to a value just inside its limits.
 fn damage(random: &mut Random, desk: &mut Desk) {
-    match random.below(26) {
+    match random.below(30) {
         0 => desk.feeds.count = random.pick(&[17, 18, 256, usize::MAX, desk.feeds.count + 1]),
         1 => desk.table.count = random.pick(&[65, 66, 256, usize::MAX, desk.table.count + 1]),
         2 => number_twice(random, desk),
@@ -751,6 +897,8 @@ fn damage(random: &mut Random, desk: &mut Desk) {
         16..=17 => another_figure(random, desk),
         18..=19 => owing_past_all_numbers(random, desk),
         20..=21 => another_order(random, desk),
+        22..=24 => another_share(random, desk),
+        25 => another_previous(random, desk),
         _ => one_field(random, desk),
     }
 }
@@ -941,12 +1089,12 @@ fn another_lead(random: &mut Random, desk: &mut Desk) {
     for feed in &mut desk.feeds.feeds {
         feed.owes = 0;
     }
-    desk.feeds.feeds[place].lead = match random.below(10) {
-        0 => 0,
-        1 => period + 1,
-        2 => random.pick(&[40_320, 40_321, 1 << 32, 1 << 63, u64::MAX]),
-        3 => random.between(1, period),
-        4..=6 => shortest - 1,
+    desk.feeds.feeds[place].lead = match random.below(11) {
+        0..=1 => 0,
+        2 => period + 1,
+        3 => random.pick(&[40_320, 40_321, 1 << 32, 1 << 63, u64::MAX]),
+        4 => random.between(1, period),
+        5..=7 => shortest - 1,
         _ => shortest,
     };
     if random.chance(30) && desk.charge < CHARGE_MOST {
@@ -970,6 +1118,40 @@ fn at_a_deadline(random: &mut Random, desk: &mut Desk) {
     let whole = state.feeds[place].charged_work(state.charge);
     state.feeds[place].owes = random.pick(&[1, whole]);
     *desk = write(&state);
+}
+
+/// A share that is none, or one at its limits; mostly with no previous deadline that would
+/// be wrong too.
+fn another_share(random: &mut Random, desk: &mut Desk) {
+    let model::Share { p, q } = match random.below(4) {
+        0..=2 => invent::no_share(random),
+        _ => invent::share(random),
+    };
+    desk.share = match random.below(8) {
+        // One of the two alone.
+        0 => Share { p, ..desk.share },
+        1 => Share { q, ..desk.share },
+        // Alike in the low bits.
+        2 => Share {
+            q: desk.share.q ^ random.pick(&[1 << 16, 1 << 31, 1 << 10]),
+            ..desk.share
+        },
+        _ => Share { p, q },
+    };
+}
+
+/// A previous deadline at its limit or above it, beside a share or none.
+fn another_previous(random: &mut Random, desk: &mut Desk) {
+    if random.chance(40) {
+        desk.share = Share::default();
+    }
+    let far = [1 << 41, 1 << 63, u64::MAX, LAST_INSTANT + 65_536];
+    desk.previous = match random.below(6) {
+        0 => LAST_INSTANT,
+        1..=3 => LAST_INSTANT + 1,
+        4 => random.pick(&far),
+        _ => desk.clock,
+    };
 }
 
 /// The charge alone is another one: with it the feeds may no longer pass, and what
@@ -1091,6 +1273,8 @@ fn value_at_a_limit(random: &mut Random, desk: &Desk) -> u64 {
         u64::MAX,
         u64::MAX - 1,
         1 << 32,
+        1_000,
+        1_001,
         other,
     ])
 }
@@ -1098,12 +1282,15 @@ fn value_at_a_limit(random: &mut Random, desk: &Desk) -> u64 {
 /// Any one field, set to such a value.
 fn one_field(random: &mut Random, desk: &mut Desk) {
     let value = value_at_a_limit(random, desk);
-    match random.below(9) {
+    match random.below(12) {
         0 => desk.clock = value,
         1 => desk.feeds.count = (value % 20) as usize,
         2 => desk.table.count = (value % 70) as usize,
         3 => desk.charge = value,
-        4..=5 => {
+        4 => desk.share.p = value as u32,
+        5 => desk.share.q = value as u32,
+        6 => desk.previous = value,
+        7..=8 => {
             let among = desk.feeds.count.clamp(1, 16);
             let feed = &mut desk.feeds.feeds[random.index(among)];
             set_feed(feed, random.below(5), value);
@@ -1138,22 +1325,48 @@ fn set_job(job: &mut Job, field: u64, value: u64) {
     }
 }
 
+fn is_taken_with_its_own_lead(desk: Desk, call: &Call) -> bool {
+    matches!(call, Call::Ask { .. } | Call::AskMesh { .. }) && refusal(&make(&Own, desk, call)) == 0
+}
+
+/// The state to go on from after a call on this one.
+fn state_after(desk: Desk, said: &Said) -> Desk {
+    match said {
+        Said::Answer(answer) | Said::Mesh(answer, _) => answer.desk,
+        Said::Stepped(stepped) => stepped.desk,
+        Said::Reason(_) | Said::Listed(..) | Said::Label(..) => desk,
+    }
+}
+
 // ---------------------------------------------------------------- telling a difference
 
 fn describe(desk: &Desk, call: &Call, ours: &Said, theirs: &Said) -> String {
     format!(
-        "--- state\n{}\n--- call\n{call:?}\n--- this program\n{}\n--- the library\n{}",
-        short(desk),
-        tell(ours),
+        "{}\n--- the library\n{}",
+        about(desk, call, ours),
         tell(theirs)
+    )
+}
+
+fn about(desk: &Desk, call: &Call, said: &Said) -> String {
+    format!(
+        "--- state\n{}\n--- call\n{call:?}\n--- this program\n{}",
+        short(desk),
+        tell(said)
     )
 }
 
 /// A state without the long tail of places that are all zero.
 fn short(desk: &Desk) -> String {
     let mut lines = vec![format!(
-        "clock {}, charge {}, {} feeds, {} jobs",
-        desk.clock, desk.charge, desk.feeds.count, desk.table.count
+        "clock {}, charge {}, {} feeds, {} jobs, share {}/{}, previous {}",
+        desk.clock,
+        desk.charge,
+        desk.feeds.count,
+        desk.table.count,
+        desk.share.p,
+        desk.share.q,
+        desk.previous
     )];
     for (position, feed) in (1..).zip(&desk.feeds.feeds) {
         if *feed != Feed::default() || position <= desk.feeds.count {

@@ -2,13 +2,14 @@
 //! works just at what fits, reused numbers, ends and rests in between, openings
 //! in mid-period, near the last instant and under any charge, layers due as soon
 //! as line 10 allows, rounds of exactly 40,320, and bad lines of every kind. A script keeps the model's state beside
-//! it, so that most lines mean something where they stand.
+//! it, so that most lines mean something where they stand. Openings for random calls
+//! carry shares too, often just what the feeds leave; a script has no word for those.
 
 use crate::ahead;
 use crate::mesh;
 use crate::model::{
-    feeds_refusal, open, round_of, Desk, Feed, Length, Refusal, CHARGE_MOST, JOB_LENGTH_MOST,
-    LAST_INSTANT, ROUND_MOST,
+    common_divisor, feeds_refusal, open, open_shared, round_of, Desk, Feed, Length, Refusal, Share,
+    CHARGE_MOST, JOB_LENGTH_MOST, LAST_INSTANT, Q_MOST, ROUND_MOST,
 };
 use crate::random::Random;
 use crate::reason::Instants;
@@ -301,6 +302,8 @@ pub struct Opening {
     pub list: Vec<u32>,
     pub start: u64,
     pub charge: u32,
+    /// Nothing for the opening that carries none.
+    pub share: Option<Share>,
 }
 
 /// An opening that mostly passes. Now and then the charge is one more or one less
@@ -318,12 +321,16 @@ pub fn opening(random: &mut Random) -> Opening {
         list,
         start,
         charge,
+        share: None,
     }
 }
 
 impl Opening {
     pub fn open(&self) -> Result<Desk, Refusal> {
-        open(&self.list, self.start, self.charge)
+        match self.share {
+            Some(share) => open_shared(&self.list, self.start, self.charge, share),
+            None => open(&self.list, self.start, self.charge),
+        }
     }
 
     fn lines(&self) -> Vec<String> {
@@ -332,6 +339,255 @@ impl Opening {
         lines.push(format!("go {} {}", self.start, self.charge));
         lines
     }
+}
+
+// ---------------------------------------------------------------- shares
+
+/// Each way not to be one, at its edges.
+const NO_SHARES: [(u32, u32); 6] = [(0, 0), (0, 1), (1, 0), (2, 1), (1, 1_001), (1_001, 1_001)];
+
+/// And farther from them.
+const FAR_FROM_SHARES: [(u32, u32); 10] = [
+    (0, 1_000),
+    (1_000, 999),
+    (1_001, 1_000),
+    (1_000, 0),
+    (1, 1_024),
+    (1, 66_536),
+    (1 << 31, 1_000),
+    (u32::MAX, 1),
+    (1, u32::MAX),
+    (u32::MAX, u32::MAX),
+];
+
+/// Those at the limits, and some that divide few works.
+const SHARES: [(u32, u32); 10] = [
+    (1, 1),
+    (1, 1_000),
+    (1_000, 1_000),
+    (999, 1_000),
+    (2, 1_000),
+    (1, 2),
+    (1, 3),
+    (2, 3),
+    (3, 7),
+    (4, 5),
+];
+
+fn share_of((p, q): (u32, u32)) -> Share {
+    Share { p, q }
+}
+
+pub fn no_share(random: &mut Random) -> Share {
+    share_of(match random.below(3) {
+        0 => random.pick(&FAR_FROM_SHARES),
+        _ => random.pick(&NO_SHARES),
+    })
+}
+
+/// A share of any kind, whatever the feeds leave.
+pub fn share(random: &mut Random) -> Share {
+    if random.chance(50) {
+        return share_of(random.pick(&SHARES));
+    }
+    let most = random.pick(&[3, 12, 100, 1_000]);
+    let q = random.between(1, most);
+    let p = random.between(1, q);
+    share_of((p as u32, q as u32))
+}
+
+/// How many ticks of a round these feeds leave, and the round; nothing where there is no
+/// such round, or they want more than it has.
+pub fn left_over(feeds: &[Feed], charge: Length) -> Option<(Length, Length)> {
+    let round = round_of(feeds)?;
+    let wanted = |feed: &Feed| feed.charged_work(charge) * (round / feed.period);
+    let left = round.checked_sub(feeds.iter().map(wanted).sum())?;
+    Some((left, round))
+}
+
+/// All of this part of a round, in lowest terms or not, if it can be told as a share.
+fn just(random: &mut Random, left: Length, round: Length) -> Option<Share> {
+    let divisor = common_divisor(round, left);
+    let (p, q) = (left / divisor, round / divisor);
+    if p == 0 || q > u64::from(Q_MOST) {
+        return None;
+    }
+    let times = random.between(1, u64::from(Q_MOST) / q);
+    let times = random.pick(&[1, times]);
+    Some(share_of(((p * times) as u32, (q * times) as u32)))
+}
+
+/// A share beside feeds that leave this part of a round: mostly all of it, else a little
+/// more or less, a small part of it, or any.
+fn beside(random: &mut Random, left: Length, round: Length) -> Share {
+    let most = u64::from(Q_MOST);
+    let thousandths = left * most / round;
+    let of_a_thousand = |p: u64| share_of((p.clamp(1, most) as u32, Q_MOST));
+    let kind = random.below(20);
+    match (kind, just(random, left, round)) {
+        (0..=8, Some(share)) => share,
+        (9..=10, Some(Share { p, q })) if p < q => share_of((p + 1, q)),
+        (9..=11, _) => of_a_thousand(thousandths + 1),
+        (12..=13, _) => of_a_thousand(thousandths),
+        (14..=15, _) => of_a_thousand(random.between(0, thousandths)),
+        (16, _) => of_a_thousand(1),
+        _ => share(random),
+    }
+}
+
+/// Feeds that mostly leave something over, and often a part that can be told as a share.
+fn lighter_feeds(random: &mut Random, start: u64, charge: u32) -> Vec<Feed> {
+    let mut feeds = feeds(random, start, charge);
+    if random.chance(30) {
+        feeds.truncate(random.index(feeds.len() + 1));
+    }
+    let often = random.pick(&[0, 40, 100]);
+    for feed in &mut feeds {
+        if random.chance(often) {
+            feed.work = random.between(1, feed.work);
+        }
+    }
+    feeds
+}
+
+/// The feeds with every layer due when the next one comes, and with so much more work for
+/// one of them, where that can be, that what they leave is a whole number of parts of the
+/// round that can be told as a share.
+fn due_by_the_next(mut feeds: Vec<Feed>, charge: Length) -> Vec<Feed> {
+    feeds.iter_mut().for_each(|feed| feed.lead = feed.period);
+    let (left, round) = match left_over(&feeds, charge) {
+        Some(all) => all,
+        None => return feeds,
+    };
+    let parts = divisors(round);
+    let parts = parts.into_iter().filter(|part| *part <= Q_MOST.into());
+    let odd = left % (round / parts.max().unwrap_or(1));
+    let takes = |feed: &&mut Feed| odd % (round / feed.period) == 0;
+    if let Some(feed) = feeds.iter_mut().find(takes) {
+        feed.work += odd / (round / feed.period);
+    }
+    feeds
+}
+
+/// An opening that carries a share, mostly a good one.
+pub fn shared_opening(random: &mut Random) -> Opening {
+    let start = start(random);
+    let charge = charge(random);
+    let mut feeds = lighter_feeds(random, start, charge);
+    if random.chance(50) {
+        feeds = due_by_the_next(feeds, charge.into());
+    }
+    let share = match left_over(&feeds, charge.into()) {
+        _ if random.chance(12) => no_share(random),
+        Some((left, round)) => beside(random, left, round),
+        None => share(random),
+    };
+    Opening {
+        list: as_list(&feeds),
+        start,
+        charge,
+        share: Some(share),
+    }
+}
+
+/// An opening that passes, with a share that the feeds leave it, mostly to the last tick,
+/// and every layer due when the next one comes: then no undated ask gets 6 as long as no
+/// other is taken.
+pub fn undated_opening(random: &mut Random) -> Opening {
+    loop {
+        let start = start(random);
+        let charge = charge(random);
+        let feeds = lighter_feeds(random, start, charge);
+        let feeds = due_by_the_next(feeds, charge.into());
+        let (left, round) = match left_over(&feeds, charge.into()) {
+            Some(all) => all,
+            None => continue,
+        };
+        let mut share = just(random, left, round);
+        if share.is_none() || random.chance(15) {
+            let thousandths = left * u64::from(Q_MOST) / round;
+            let p = random.between(thousandths.min(1), thousandths) as u32;
+            share = Some(Share { p, q: Q_MOST });
+        }
+        let opening = Opening {
+            list: as_list(&feeds),
+            start,
+            charge,
+            share,
+        };
+        if opening.open().is_ok() {
+            return opening;
+        }
+    }
+}
+
+/// How many ticks of such a job's time the previous ones have still before them.
+fn before_the_next(desk: &Desk) -> Length {
+    desk.previous.unwrap_or(0).saturating_sub(desk.clock)
+}
+
+/// The most work that is due no further ahead than this by the rule; 0 also where none is.
+fn most_within(desk: &Desk, share: Share, lead: Length) -> Length {
+    let time = lead.saturating_sub(before_the_next(desk));
+    (time * u64::from(share.p) / u64::from(share.q)).saturating_sub(desk.charge)
+}
+
+/// A work to ask for with no date: mostly a small one, so that more of them find a place,
+/// else one with which it is due at a limit, or one at a limit itself.
+pub fn undated_work(random: &mut Random, desk: &Desk) -> u64 {
+    let share = match desk.share {
+        Some(share) => share,
+        None => return random.pick(&[0, 1, 3, 65_536, 65_537]),
+    };
+    let most = |lead| most_within(desk, share, lead);
+    let room = LAST_INSTANT - desk.clock;
+    let round = round_of(&desk.feeds).unwrap_or(1);
+    match random.below(100) {
+        // Due together with another job, where the share allows it.
+        0..=14 if !desk.jobs.is_empty() => {
+            let other = desk.jobs[random.index(desk.jobs.len())];
+            most(other.deadline.saturating_sub(desk.clock)).max(1)
+        }
+        0..=44 => random.between(1, 9),
+        45..=59 => random.between(1, most(2 * round).max(1)),
+        60..=69 => most(random.between(1, JOB_LENGTH_MOST)),
+        70..=76 => most(JOB_LENGTH_MOST),
+        77..=83 => most(JOB_LENGTH_MOST + 1),
+        84..=87 => most(JOB_LENGTH_MOST) + 1,
+        88..=93 if room <= JOB_LENGTH_MOST => most(room + random.below(2)),
+        _ => random.pick(&[0, 1, 65_536, 65_537, 65_535, u32::MAX.into()]),
+    }
+}
+
+/// A previous deadline such that this work is due just at the longest lead or a tick after
+/// it, just at the last instant or a tick after it, together with a job, or anywhere.
+pub fn another_previous(random: &mut Random, desk: &Desk, work: Length) -> u64 {
+    let Desk { clock, charge, .. } = *desk;
+    let time = match desk.share {
+        Some(Share { p, q }) => {
+            let (p, q) = (u64::from(p.max(1)), u64::from(q));
+            ((work + charge) * q + p - 1) / p
+        }
+        None => 0,
+    };
+    let any = random.below(JOB_LENGTH_MOST);
+    let behind = |deadline: u64| deadline.saturating_sub(time);
+    match random.below(20) {
+        0..=3 => behind(clock + JOB_LENGTH_MOST) + random.below(2),
+        4..=6 => behind(LAST_INSTANT) + random.below(2),
+        16..=19 if !desk.jobs.is_empty() => {
+            behind(desk.jobs[random.index(desk.jobs.len())].deadline)
+        }
+        7..=8 => clock + random.below(40),
+        9 => clock + any,
+        10 => clock.saturating_sub(random.below(40)),
+        11 => clock.saturating_sub(any),
+        12 => 0,
+        13 => random.pick(&[1, clock, clock + 1, clock.saturating_sub(1)]),
+        14 => random.pick(&[LAST_INSTANT, LAST_INSTANT - 1, LAST_INSTANT - any]),
+        _ => random.below(LAST_INSTANT),
+    }
+    .min(LAST_INSTANT)
 }
 
 // ---------------------------------------------------------------- calls
@@ -690,6 +946,7 @@ fn roomy(random: &mut Random) -> Opening {
         list,
         start,
         charge,
+        share: None,
     }
 }
 
@@ -780,7 +1037,7 @@ fn strange_opening(random: &mut Random) -> Vec<u8> {
     text(&lines)
 }
 
-const BAD_LINES: [&str; 90] = [
+const BAD_LINES: [&str; 94] = [
     "",
     " ",
     "go",
@@ -808,6 +1065,8 @@ const BAD_LINES: [&str; 90] = [
     "go 0 9999999999999",
     "go 0 10000000000000",
     "go 0 0 0",
+    "go 0 0 1 2",
+    "go 0 0 1/2",
     "go 0,0",
     "Go 0 0",
     "GO 0 0",
@@ -870,6 +1129,8 @@ const BAD_LINES: [&str; 90] = [
     "# comment",
     "run 1\0",
     "list",
+    "share 1 2",
+    "undated 1 1",
     "quit",
 ];
 
@@ -1043,6 +1304,7 @@ fn at_the_end_of_time(random: &mut Random) -> Vec<u8> {
             list: as_list(&feeds(random, start, charge)),
             start,
             charge,
+            share: None,
         };
         if let Some(script) = Script::open(&opening, 400) {
             break script;

@@ -18,6 +18,7 @@ pub const FEEDS_MOST: usize = 16;
 pub const FEED_LENGTH_MOST: Length = 40_320;
 pub const ROUND_MOST: Length = 40_320;
 pub const CHARGE_MOST: Length = 16;
+pub const Q_MOST: u32 = 1_000;
 
 /// The document's numbers, table "What each number says", and those of the
 /// requests that came after it.
@@ -39,6 +40,7 @@ pub const FRONT_TOO_SHORT: Refusal = 15;
 pub const LENGTH_DISAGREES: Refusal = 16;
 pub const NO_TRIANGLES: Refusal = 17;
 pub const CHARGE_TOO_HIGH: Refusal = 18;
+pub const NO_SHARE: Refusal = 19;
 
 #[derive(Clone, Copy, Debug, PartialEq, Eq)]
 pub struct Feed {
@@ -62,6 +64,13 @@ pub struct Job {
     pub figure: Length,
 }
 
+/// What part of the processor exports with no date may count on: p of every q ticks.
+#[derive(Clone, Copy, Debug, PartialEq, Eq)]
+pub struct Share {
+    pub p: u32,
+    pub q: u32,
+}
+
 /// The desk's state. Jobs stand in the order in which they came, and nothing looks for
 /// one by its place: the order of the table is the boundary's (see `own`).
 #[derive(Clone, Debug, PartialEq, Eq, Default)]
@@ -71,6 +80,10 @@ pub struct Desk {
     pub charge: Length,
     pub feeds: Vec<Feed>,
     pub jobs: Vec<Job>,
+    /// Nothing where the opening carried none.
+    pub share: Option<Share>,
+    /// The deadline of the export with no date that was taken last, whatever became of it.
+    pub previous: Option<Instant>,
 }
 
 /// Who gets a tick.
@@ -109,6 +122,20 @@ pub enum Place {
     Empty,
     InJobLabels(usize),
     InFeedLabels(usize),
+}
+
+impl Share {
+    /// Whether an opening may carry it.
+    fn is_one(self) -> bool {
+        self.p != 0 && self.q != 0 && self.p <= self.q && self.q <= Q_MOST
+    }
+
+    /// The ticks in which it gives this many, begun ones whole.
+    fn time_for(self, ticks: Length) -> Length {
+        let (p, q) = (Length::from(self.p), Length::from(self.q));
+        let (whole, begun) = (ticks * q / p, ticks * q % p);
+        whole + u64::from(begun > 0)
+    }
 }
 
 impl Feed {
@@ -152,7 +179,7 @@ impl Feed {
 }
 
 /// Euclid's rule.
-fn common_divisor(larger: u64, smaller: u64) -> u64 {
+pub fn common_divisor(larger: u64, smaller: u64) -> u64 {
     if smaller == 0 {
         larger
     } else {
@@ -250,8 +277,28 @@ pub fn feeds_refusal(feeds: &[Feed], charge: Length) -> Option<Refusal> {
     is_late_together(feeds, charge, round).then_some(LOAD_TOO_HIGH)
 }
 
-/// Opening: 12, 8, 3, 18, 2, 9, 10. (A refused opening's state is the default.)
+/// Opening without a share: 12, 8, 3, 18, 2, 9, 10. (A refused opening's state is the
+/// default.)
 pub fn open(list: &[u32], start: Instant, charge: u32) -> Result<Desk, Refusal> {
+    open_with(list, start, charge, None)
+}
+
+/// Opening with one: 12, 8, 3, 18, 19, 2, 9, 10.
+pub fn open_shared(
+    list: &[u32],
+    start: Instant,
+    charge: u32,
+    share: Share,
+) -> Result<Desk, Refusal> {
+    open_with(list, start, charge, Some(share))
+}
+
+fn open_with(
+    list: &[u32],
+    start: Instant,
+    charge: u32,
+    share: Option<Share>,
+) -> Result<Desk, Refusal> {
     let charge = Length::from(charge);
     if list.len() % 4 != 0 {
         return Err(LIST_NOT_IN_FOURS);
@@ -264,6 +311,9 @@ pub fn open(list: &[u32], start: Instant, charge: u32) -> Result<Desk, Refusal> 
     }
     if charge > CHARGE_MOST {
         return Err(CHARGE_TOO_HIGH);
+    }
+    if !share.map_or(true, Share::is_one) {
+        return Err(NO_SHARE);
     }
     let mut feeds: Vec<Feed> = list
         .chunks(4)
@@ -289,6 +339,8 @@ pub fn open(list: &[u32], start: Instant, charge: u32) -> Result<Desk, Refusal> 
         charge,
         feeds,
         jobs: Vec::new(),
+        share,
+        previous: None,
     })
 }
 
@@ -298,6 +350,8 @@ impl Desk {
     pub fn in_order(&self) -> bool {
         self.clock <= LAST_INSTANT
             && self.charge <= CHARGE_MOST
+            && self.share.map_or(true, Share::is_one)
+            && self.previous.map_or(true, |due| due <= LAST_INSTANT)
             && self.feeds_in_order()
             && self.jobs_in_order()
     }
@@ -361,7 +415,10 @@ impl Desk {
 
     /// Asking: 13, 1, 2, 3, 4, 5, 6. The limits of work are without the charge.
     pub fn ask(&self, number: u32, work: u32, lead: u32) -> Result<Desk, Refusal> {
-        let (work, lead) = (Length::from(work), Length::from(lead));
+        self.ask_for(number, work.into(), lead.into())
+    }
+
+    fn ask_for(&self, number: u32, work: Length, lead: Length) -> Result<Desk, Refusal> {
         if !self.in_order() {
             return Err(NOT_IN_ORDER);
         }
@@ -407,6 +464,32 @@ impl Desk {
             return Err(NOT_IN_ORDER);
         }
         self.ask(number, mesh::work(head, size)?, lead)
+    }
+
+    /// Asking with no date: 13, 1, 19, then as any ask with the lead that the rule gives
+    /// it. Only a yes to this is remembered.
+    pub fn ask_undated(&self, number: u32, work: u32) -> Result<Desk, Refusal> {
+        if !self.in_order() {
+            return Err(NOT_IN_ORDER);
+        }
+        if number == 0 {
+            return Err(NUMBER_ZERO);
+        }
+        let share = self.share.ok_or(NO_SHARE)?;
+        let deadline = self.undated_deadline(share, work.into());
+        let mut taken = self.ask_for(number, work.into(), deadline - self.clock)?;
+        taken.previous = Some(deadline);
+        Ok(taken)
+    }
+
+    /// The later of now and the previous one's deadline, plus the charged work divided by
+    /// the share, rounded up; for the first one, from now.
+    fn undated_deadline(&self, share: Share, work: Length) -> Instant {
+        let from = match self.previous {
+            Some(previous) => self.clock.max(previous),
+            None => self.clock,
+        };
+        from + share.time_for(work + self.charge)
     }
 
     /// Why: the number that asking would give, and for 6 and 0 where that comes

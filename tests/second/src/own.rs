@@ -1,6 +1,6 @@
 //! The model behind the C boundary's shapes: what every call should answer.
 
-use crate::boundary::{Answer, Desk, Feed, Job, Label, Library, Listed, Reason, Stepped};
+use crate::boundary::{Answer, Desk, Feed, Job, Label, Library, Listed, Reason, Share, Stepped};
 use crate::model::{self, Place, Refusal, Runner, NOT_IN_ORDER};
 
 /// The state that these fixed tables hold; nothing if a count is above its limit, a
@@ -23,7 +23,13 @@ pub fn read(desk: &Desk) -> Option<model::Desk> {
         charge: desk.charge,
         feeds: feeds.iter().map(model_feed).collect(),
         jobs: as_they_may_have_come(jobs),
+        share: (desk.share != Share::default()).then_some(model_share(desk.share)),
+        previous: Some(desk.previous).filter(|previous| *previous != 0),
     })
+}
+
+fn model_share(Share { p, q }: Share) -> model::Share {
+    model::Share { p, q }
 }
 
 /// What the table goes by: the earlier deadline first, then the lower number.
@@ -82,8 +88,12 @@ pub fn write(state: &model::Desk) -> Desk {
     let mut desk = Desk {
         clock: state.clock,
         charge: state.charge,
+        previous: state.previous.unwrap_or(0),
         ..Desk::default()
     };
+    if let Some(model::Share { p, q }) = state.share {
+        desk.share = Share { p, q };
+    }
     desk.feeds.count = state.feeds.len();
     for (place, feed) in desk.feeds.feeds.iter_mut().zip(&state.feeds) {
         let model::Feed {
@@ -146,6 +156,11 @@ impl Library for Own {
         answer(Desk::default(), model::open(list, start, charge))
     }
 
+    fn open_shared(&self, list: &[u32], start: u64, charge: u32, share: Share) -> Answer {
+        let opened = model::open_shared(list, start, charge, model_share(share));
+        answer(Desk::default(), opened)
+    }
+
     fn ask(&self, desk: Desk, number: u32, work: u32, lead: u32) -> Answer {
         answer(
             desk,
@@ -157,6 +172,13 @@ impl Library for Own {
         answer(
             desk,
             state_of(&desk).and_then(|state| state.ask_mesh(head, size, number, lead)),
+        )
+    }
+
+    fn ask_undated(&self, desk: Desk, number: u32, work: u32) -> Answer {
+        answer(
+            desk,
+            state_of(&desk).and_then(|state| state.ask_undated(number, work)),
         )
     }
 

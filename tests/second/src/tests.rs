@@ -3,14 +3,15 @@
 //! adding up, the rehearsal ahead against two slower ways of knowing, and the
 //! comparing of calls against libraries with one fault planted. What the charge
 //! changes is in `charge`, what deadlines before the next release change in
-//! `deadlines`, what the figure changes in `figure` and what the order of the table
-//! changes in `order`, but random states here are under any charge, and with any
-//! deadlines.
+//! `deadlines`, what the figure changes in `figure`, what the order of the table
+//! changes in `order` and what exports with no date change in `undated`, but random
+//! states here are under any charge, and with any deadlines.
 
 mod charge;
 mod deadlines;
 mod figure;
 mod order;
+mod undated;
 
 use crate::ahead;
 use crate::boundary::{self, Answer, Label, Library, Listed, Stepped};
@@ -610,9 +611,9 @@ fn other_refusals_come_with_their_number_alone() {
 fn reasons_on_an_overbooked_state() {
     let desk = figured(Desk {
         clock: 10,
-        charge: 0,
         feeds: x().feeds,
         jobs: vec![job(5, 9, 20), job(4, 3, 12), job(6, 1, 11)],
+        ..Desk::default()
     });
     assert!(desk.in_order());
     // By 12 the jobs owe 1 + 3 and both current pieces are due, 1 + 2.
@@ -623,9 +624,8 @@ fn reasons_on_an_overbooked_state() {
     let jobs = (1..=63).map(|number| job(number, 65_536, LAST_INSTANT));
     let most = figured(Desk {
         clock: LAST_INSTANT - 1,
-        charge: 0,
-        feeds: Vec::new(),
         jobs: jobs.collect(),
+        ..Desk::default()
     });
     let (all, margin) = (63 * 65_536, 1 - 64 * 65_536);
     let why = most.why(64, 65_536, 1);
@@ -920,7 +920,7 @@ fn unused_places_must_be_zero() {
 // ---------------------------------------------------------------- the program
 
 /// Bad before `go`.
-const BAD_BEFORE_GO: [&str; 43] = [
+const BAD_BEFORE_GO: [&str; 46] = [
     "",
     " ",
     "go",
@@ -942,6 +942,8 @@ const BAD_BEFORE_GO: [&str; 43] = [
     "go 0 4294967296",
     "go 0 10000000000000",
     "go 0 0 0",
+    "go 0 0 1 2",
+    "go 0 0 1/2",
     "Go 0 0",
     "feed 4 1",
     "feed 4 1 0",
@@ -964,17 +966,21 @@ const BAD_BEFORE_GO: [&str; 43] = [
     "run 1",
     "go 1a 0",
     "go 0 1a",
+    "share 1 2",
 ];
 
 /// Bad after it.
-const BAD_AFTER_GO: [&str; 19] = [
+const BAD_AFTER_GO: [&str; 22] = [
     "",
     "ask 1 1",
+    "ask 1 1 ",
     "ask 1 1 1 1",
     "ask 4294967296 1 1",
     "ask 1 4294967296 1",
     "ask 1 1 4294967296",
     "ask 01 1 1",
+    "undated 1 1",
+    "share 1 2",
     "end",
     "end 1 1",
     "end 4294967296",
@@ -1170,6 +1176,7 @@ fn small_state(random: &mut Random, periods: &[u64], lead: u64) -> Desk {
             charge,
             feeds,
             jobs,
+            ..Desk::default()
         });
         if desk.in_order() {
             return desk;
@@ -1275,6 +1282,9 @@ impl Library for Faulty {
         }
         answer
     }
+    fn open_shared(&self, list: &[u32], start: u64, charge: u32, share: boundary::Share) -> Answer {
+        Own.open_shared(list, start, charge, share)
+    }
     fn ask(&self, desk: State, number: u32, work: u32, lead: u32) -> Answer {
         let mut answer = Own.ask(desk, number, work, lead);
         match self.0 {
@@ -1286,6 +1296,9 @@ impl Library for Faulty {
     }
     fn ask_mesh(&self, desk: State, head: &[u8], size: u64, number: u32, lead: u32) -> Answer {
         faulty_mesh(self.0, desk, head, size, number, lead)
+    }
+    fn ask_undated(&self, desk: State, number: u32, work: u32) -> Answer {
+        Own.ask_undated(desk, number, work)
     }
     fn why(&self, desk: State, number: u32, work: u32, lead: u32) -> boundary::Reason {
         let right = Own.why(desk, number, work, lead);
@@ -1576,7 +1589,7 @@ fn each_planted_fault_is_found() {
 #[test]
 fn each_planted_fault_of_a_reason_is_found() {
     for fault in (50..=67).chain(70..=92).chain(100..=108) {
-        match calls::compare(&Faulty(fault), 5, 0, 30_000) {
+        match calls::compare(&Faulty(fault), 5, 0, 40_000) {
             Ok(_) => panic!("fault {fault} went by"),
             Err(difference) => assert!(difference.contains("Why {"), "fault {fault}"),
         }
@@ -1586,7 +1599,8 @@ fn each_planted_fault_of_a_reason_is_found() {
 /// Notes what came: the lengths of fronts, the counts in them, by how much a
 /// file's length was off, the works taken, and how often a state was overbooked;
 /// which kinds of reason, by number; which charges and states under them; which kinds
-/// of deadline; which kinds of figure; and which places in the table.
+/// of deadline; which kinds of figure; which places in the table; and which shares,
+/// previous deadlines and asks with no date.
 #[derive(Default)]
 struct Watching {
     lent: RefCell<BTreeSet<usize>>,
@@ -1599,6 +1613,7 @@ struct Watching {
     deadlines: deadlines::Seen,
     figures: figure::Seen,
     orders: order::Seen,
+    undated: undated::Seen,
 }
 
 impl Watching {
@@ -1607,6 +1622,7 @@ impl Watching {
         self.deadlines.note(desk);
         self.figures.note(desk);
         self.orders.note(desk);
+        self.undated.note(desk);
     }
 
     fn note_reason(&self, state: &Desk, lead: u64, why: &boundary::Reason) {
@@ -1702,6 +1718,10 @@ impl Library for Watching {
     fn open(&self, list: &[u32], start: u64, charge: u32) -> Answer {
         Own.open(list, start, charge)
     }
+    fn open_shared(&self, list: &[u32], start: u64, charge: u32, share: boundary::Share) -> Answer {
+        self.undated.note_open(list, start, charge, share);
+        Own.open_shared(list, start, charge, share)
+    }
     fn ask(&self, desk: State, number: u32, work: u32, lead: u32) -> Answer {
         let answer = Own.ask(desk, number, work, lead);
         self.figures.note_ask(&desk, &answer);
@@ -1730,6 +1750,14 @@ impl Library for Watching {
             }
             _ => (),
         }
+        answer
+    }
+    fn ask_undated(&self, desk: State, number: u32, work: u32) -> Answer {
+        let answer = Own.ask_undated(desk, number, work);
+        self.note_state(&desk);
+        self.undated.note_ask(&desk, number, work, &answer);
+        self.figures.note_undated(&desk, &answer);
+        self.orders.note_undated(&desk, &answer);
         answer
     }
     fn why(&self, desk: State, number: u32, work: u32, lead: u32) -> boundary::Reason {
@@ -1777,11 +1805,14 @@ impl Library for Watching {
 #[test]
 fn a_right_library_passes() {
     let watching = Watching::default();
-    let tally = calls::compare(&watching, 7, 0, 30_000).unwrap();
+    let tally = calls::compare(&watching, 7, 0, 50_000).unwrap();
     let refusals = [
         ("open", vec![0, 2, 3, 8, 9, 10, 12, 18]),
+        ("shared", vec![0, 2, 3, 8, 9, 10, 12, 18, 19]),
         ("ask", vec![0, 1, 2, 3, 4, 5, 6, 13]),
         ("mesh", vec![0, 1, 2, 3, 4, 5, 6, 13, 15, 16, 17]),
+        ("undated", vec![0, 1, 2, 3, 4, 5, 6, 13, 19]),
+        ("alone", vec![0, 1, 2, 3, 4, 5]),
         ("why", vec![0, 1, 2, 3, 4, 5, 6, 13]),
         ("step", vec![0, 3, 13]),
         ("end", vec![0, 7, 13]),
@@ -1803,4 +1834,5 @@ fn a_right_library_passes() {
     watching.deadlines.saw_every_kind();
     watching.figures.saw_every_kind();
     watching.orders.saw_every_kind();
+    watching.undated.saw_every_kind();
 }

@@ -366,6 +366,13 @@ impl Library for Mischarging {
     fn open(&self, list: &[u32], start: u64, charge: u32) -> Answer {
         mischarged_opening(self.0, list, start, charge)
     }
+    fn open_shared(&self, list: &[u32], start: u64, charge: u32, share: boundary::Share) -> Answer {
+        let mut answer = Own.open_shared(list, start, charge, share);
+        if self.0 == 14 && answer.refusal == 0 {
+            answer.desk.charge = 0;
+        }
+        answer
+    }
     fn ask(&self, desk: State, number: u32, work: u32, lead: u32) -> Answer {
         mischarged_ask(self.0, desk, number, work, lead)
     }
@@ -373,6 +380,15 @@ impl Library for Mischarging {
         let mut answer = Own.ask_mesh(desk, head, size, number, lead);
         if self.0 == 30 && answer.refusal == 0 {
             newest(&desk, &mut answer).owed -= desk.charge;
+        }
+        answer
+    }
+    fn ask_undated(&self, desk: State, number: u32, work: u32) -> Answer {
+        let mut answer = Own.ask_undated(desk, number, work);
+        match (self.0, answer.refusal) {
+            (31, 0) => newest(&desk, &mut answer).owed -= desk.charge,
+            (32, 0) => newest(&desk, &mut answer).owed += desk.charge,
+            _ => (),
         }
         answer
     }
@@ -568,10 +584,10 @@ fn misjudged(fault: u32, desk: &State, right: u32, other: u32) -> u32 {
 #[test]
 fn each_wrong_charge_is_found() {
     assert!(calls::compare(&Mischarging(0), 6, 0, 2_000).is_ok());
-    let faults = (1..=13).chain(20..=25).chain([30]).chain(40..=44);
+    let faults = (1..=14).chain(20..=25).chain(30..=32).chain(40..=44);
     for fault in faults.chain(50..=54).chain(60..=67) {
         assert!(
-            calls::compare(&Mischarging(fault), 6, 0, 30_000).is_err(),
+            calls::compare(&Mischarging(fault), 6, 0, 40_000).is_err(),
             "fault {fault} went by"
         );
     }

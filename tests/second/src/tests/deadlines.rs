@@ -575,6 +575,9 @@ impl Library for Mistimed {
     fn open(&self, list: &[u32], start: u64, charge: u32) -> Answer {
         mistimed_opening(self.0, list, start, charge)
     }
+    fn open_shared(&self, list: &[u32], start: u64, charge: u32, share: boundary::Share) -> Answer {
+        Own.open_shared(list, start, charge, share)
+    }
     fn ask(&self, desk: State, number: u32, work: u32, lead: u32) -> Answer {
         let answer = Own.ask(desk, number, work, lead);
         if ![0, 6].contains(&answer.refusal) {
@@ -586,6 +589,9 @@ impl Library for Mistimed {
     }
     fn ask_mesh(&self, desk: State, head: &[u8], size: u64, number: u32, lead: u32) -> Answer {
         Own.ask_mesh(desk, head, size, number, lead)
+    }
+    fn ask_undated(&self, desk: State, number: u32, work: u32) -> Answer {
+        Own.ask_undated(desk, number, work)
     }
     fn why(&self, desk: State, number: u32, work: u32, lead: u32) -> boundary::Reason {
         let why = Own.why(desk, number, work, lead);
@@ -699,7 +705,7 @@ fn is_late_as_lent(mut feeds: Vec<Feed>, start: Instant, charge: Length) -> bool
         clock: start,
         charge,
         feeds,
-        jobs: Vec::new(),
+        ..Desk::default()
     };
     (0..2 * round).any(|_| is_late_in_a_tick(&mut desk))
 }
@@ -810,7 +816,7 @@ fn each_wrong_deadline_is_found() {
     let faults = (1..=11).chain(20..=21).chain(40..=46);
     for fault in faults.chain([50, 55]).chain(60..=67) {
         assert!(
-            calls::compare(&Mistimed(fault), 8, 0, 30_000).is_err(),
+            calls::compare(&Mistimed(fault), 8, 0, 40_000).is_err(),
             "fault {fault} went by"
         );
     }

@@ -218,8 +218,8 @@ fn the_highest_figure() {
         figured(Desk {
             clock,
             charge: 16,
-            feeds: Vec::new(),
             jobs: (1..=64).map(|number| job(number, owed, deadline)).collect(),
+            ..Desk::default()
         })
     };
     let desk = all(LAST_INSTANT - 1, 65_552, LAST_INSTANT);
@@ -525,6 +525,12 @@ const WRONG: [&str; 14] = [
 
 const OTHERS: [&str; 2] = ["in an unused place", "sums that went round"];
 
+const UNDATED: [&str; 3] = [
+    "a yes with no date beside one due together",
+    "a yes with no date before one that is due later",
+    "a yes with no date behind one that is due earlier",
+];
+
 const CALLS: [&str; 18] = [
     "a yes beside one due together",
     "a yes before one that is due later",
@@ -600,20 +606,13 @@ impl Seen {
     }
 
     pub fn note_ask(&self, desk: &State, answer: &Answer) {
-        let (before, after) = (live(desk), live(&answer.desk));
-        let taken = order::taken(desk, &answer.desk).map(|at| after[at]);
-        let any = |holds: &dyn Fn(u64, u64) -> bool| {
-            taken.map_or(false, |job| {
-                before.iter().any(|o| holds(o.deadline, job.deadline))
-            })
-        };
-        let holds = [
-            any(&|other, own| other == own),
-            any(&|other, own| other > own),
-            any(&|other, own| other < own),
-            answer.refusal == 6 && !before.is_empty(),
-        ];
-        self.came(&CALLS[..4], &holds);
+        let [together, before, behind] = taken_beside(desk, answer);
+        let refused = answer.refusal == 6 && !live(desk).is_empty();
+        self.came(&CALLS[..4], &[together, before, behind, refused]);
+    }
+
+    pub fn note_undated(&self, desk: &State, answer: &Answer) {
+        self.came(&UNDATED, &taken_beside(desk, answer));
     }
 
     pub fn note_step(&self, desk: &State, stepped: &Stepped) {
@@ -687,10 +686,24 @@ impl Seen {
 
     pub fn saw_every_kind(&self) {
         let kinds = GOOD.iter().chain(&WRONG).chain(&OTHERS).chain(&CALLS);
-        for kind in kinds {
+        for kind in kinds.chain(&UNDATED) {
             assert!(self.kinds.borrow().contains(kind), "{kind} never came");
         }
     }
+}
+
+/// Whether a job was taken with one there that is due with it, later or earlier.
+fn taken_beside(desk: &State, answer: &Answer) -> [bool; 3] {
+    let taken = order::taken(desk, &answer.desk).map(|at| live(&answer.desk)[at].deadline);
+    let any = |holds: &dyn Fn(u64, u64) -> bool| {
+        let mut due = live(desk).iter().map(|job| job.deadline);
+        taken.map_or(false, |own| due.any(|other| holds(other, own)))
+    };
+    [
+        any(&|other, own| other == own),
+        any(&|other, own| other > own),
+        any(&|other, own| other < own),
+    ]
 }
 
 /// Whether a state would be in order if each job owed no more than it may.
@@ -711,6 +724,9 @@ struct Misfiguring(u32);
 impl Library for Misfiguring {
     fn open(&self, list: &[u32], start: u64, charge: u32) -> Answer {
         Own.open(list, start, charge)
+    }
+    fn open_shared(&self, list: &[u32], start: u64, charge: u32, share: boundary::Share) -> Answer {
+        Own.open_shared(list, start, charge, share)
     }
     fn ask(&self, desk: State, number: u32, work: u32, lead: u32) -> Answer {
         let mut answer = Own.ask(desk, number, work, lead);
@@ -734,6 +750,14 @@ impl Library for Misfiguring {
         // As the ask for a job, where that is wrong in this.
         if let (0, 15..=17) = (answer.refusal, self.0) {
             misfigured_yes(self.0 - 14, &desk, &mut answer.desk);
+        }
+        answer
+    }
+    fn ask_undated(&self, desk: State, number: u32, work: u32) -> Answer {
+        let mut answer = Own.ask_undated(desk, number, work);
+        // As the ask for a job with a date, where that is wrong in this.
+        if let (0, 85..=87) = (answer.refusal, self.0) {
+            misfigured_yes(self.0 - 84, &desk, &mut answer.desk);
         }
         answer
     }
@@ -1062,9 +1086,10 @@ fn misjudged(fault: u32, desk: &State, right: u32, other: u32) -> u32 {
 fn each_wrong_figure_is_found() {
     assert!(calls::compare(&Misfiguring(0), 9, 0, 2_000).is_ok());
     let faults = (1..=32).chain(35..=42).chain([45]);
-    for fault in faults.chain(50..=56).chain(60..=78).chain(80..=81) {
+    let faults = faults.chain(50..=56).chain(60..=78).chain(80..=81);
+    for fault in faults.chain(85..=87) {
         assert!(
-            calls::compare(&Misfiguring(fault), 9, 0, 30_000).is_err(),
+            calls::compare(&Misfiguring(fault), 9, 0, 40_000).is_err(),
             "fault {fault} went by"
         );
     }

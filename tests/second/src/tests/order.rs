@@ -580,6 +580,14 @@ const MESHES: [&str; 5] = [
     "a mesh before one due together",
 ];
 
+const UNDATED: [&str; 5] = [
+    "one with no date before all others",
+    "one with no date behind all others",
+    "one with no date between two",
+    "one with no date behind one due together",
+    "one with no date before one due together",
+];
+
 const CALLS: [&str; 10] = [
     "a last tick before two others",
     "a tick before one due together",
@@ -663,6 +671,10 @@ impl Seen {
         self.came(&MESHES, &place_taken(desk, answer)[..5]);
     }
 
+    pub fn note_undated(&self, desk: &State, answer: &Answer) {
+        self.came(&UNDATED, &place_taken(desk, answer)[..5]);
+    }
+
     pub fn note_step(&self, desk: &State, stepped: &Stepped) {
         let jobs = live(desk);
         let served = stepped.refusal == 0 && stepped.kind == 1 && jobs.len() > 1;
@@ -713,7 +725,8 @@ impl Seen {
 
     pub fn saw_every_kind(&self) {
         let states = GOOD.iter().chain(&WRONG);
-        for kind in states.chain(&ASKS).chain(&MESHES).chain(&CALLS) {
+        let asks = ASKS.iter().chain(&MESHES).chain(&UNDATED);
+        for kind in states.chain(asks).chain(&CALLS) {
             assert!(self.kinds.borrow().contains(kind), "{kind} never came");
         }
     }
@@ -751,6 +764,9 @@ impl Library for Misplacing {
     fn open(&self, list: &[u32], start: u64, charge: u32) -> Answer {
         Own.open(list, start, charge)
     }
+    fn open_shared(&self, list: &[u32], start: u64, charge: u32, share: boundary::Share) -> Answer {
+        Own.open_shared(list, start, charge, share)
+    }
     fn ask(&self, desk: State, number: u32, work: u32, lead: u32) -> Answer {
         let mut answer = Own.ask(desk, number, work, lead);
         if answer.refusal == 0 {
@@ -764,6 +780,14 @@ impl Library for Misplacing {
         // As the ask for a job, where that is wrong in this.
         if let (0, 14..=19) = (answer.refusal, self.0) {
             misplaced_yes(self.0 - 13, &desk, &mut answer.desk);
+        }
+        answer
+    }
+    fn ask_undated(&self, desk: State, number: u32, work: u32) -> Answer {
+        let mut answer = Own.ask_undated(desk, number, work);
+        // As the ask for a job with a date, where that is wrong in this.
+        if let (0, 85..=90) = (answer.refusal, self.0) {
+            misplaced_yes(self.0 - 84, &desk, &mut answer.desk);
         }
         answer
     }
@@ -1052,9 +1076,9 @@ fn misjudged(fault: u32, desk: &State, right: u32, other: u32) -> u32 {
 fn each_wrong_order_is_found() {
     assert!(calls::compare(&Misplacing(0), 10, 0, 2_000).is_ok());
     let faults = (1..=27).chain(30..=34).chain(40..=47).chain(50..=55);
-    for fault in faults.chain(60..=83) {
+    for fault in faults.chain(60..=83).chain(85..=90) {
         assert!(
-            calls::compare(&Misplacing(fault), 10, 0, 30_000).is_err(),
+            calls::compare(&Misplacing(fault), 10, 0, 40_000).is_err(),
             "fault {fault} went by"
         );
     }
