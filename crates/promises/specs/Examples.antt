@@ -167,8 +167,11 @@ undatedTable =
     ∷ shared 1 4 3 1 (4 ∷ 2 ∷ 0 ∷ 4 ∷ []) 0 (steps 0 ∷ undated 1 3 0 ∷ [])
     -- an end gives no time back: the next deadline counts from that of the job that was ended, or it would not fit
     ∷ shared 1 3 3 0 (3 ∷ 2 ∷ 0 ∷ 3 ∷ []) 0 (undated 1 2 0 ∷ undated 2 1 0 ∷ steps 0 ∷ ends 2 0 ∷ undated 3 5 0 ∷ [])
-    -- what the theorem asks for is needed: a job with a lead of its own in between,
+    -- nor does a last tick: the second counts from the first one's deadline, though that job has left
+    ∷ shared 1 2 0 0 (10 ∷ 5 ∷ 0 ∷ 10 ∷ []) 0 (undated 1 5 0 ∷ steps 0 ∷ steps 0 ∷ steps 0 ∷ steps 0 ∷ steps 0 ∷ undated 2 1 0 ∷ [])
+    -- what the theorem asks for is needed: a job with a lead of its own in between, one that has left too,
     ∷ shared 1 2 0 0 (2 ∷ 1 ∷ 0 ∷ 2 ∷ []) 0 (asks 1 1 2 0 ∷ undated 2 1 6 ∷ [])
+    ∷ shared 1 2 0 0 (10 ∷ 5 ∷ 0 ∷ 10 ∷ []) 0 (asks 1 5 5 0 ∷ steps 0 ∷ steps 0 ∷ steps 0 ∷ steps 0 ∷ steps 0 ∷ undated 2 1 6 ∷ [])
     -- a layer that is due before the next comes,
     ∷ shared 1 2 0 0 (4 ∷ 2 ∷ 0 ∷ 2 ∷ []) 0 (undated 1 1 6 ∷ [])
     -- shares that are together more than all
