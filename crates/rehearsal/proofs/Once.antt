@@ -3,9 +3,9 @@ use mathlib.Core.Path.{_≡_, refl, sym, ap, _∙_}
 use mathlib.Core.Bool.{Bool, true, false}
 use mathlib.Core.List.{List}
 use Prim.Native.Nat.{ℕ}
-use Rattle.words.specs.declared.Found.{Found}
+use Rattle.text.specs.declared.Found.{Found}
 use Rattle.words.specs.declared.Line.{Line}
-use Rattle.words.specs.Fields.{lineEnd}
+use Rattle.text.specs.Fields.{lineEnd}
 use Rattle.desk.proofs.Asking.{asked-once}
 use Rattle.sayings.specs.declared.Said.{Said}
 use Rattle.rehearsal.specs.declared.Session.{Session}

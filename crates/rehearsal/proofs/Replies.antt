@@ -6,10 +6,10 @@ use Prim.Native.Nat.{ℕ, _-_, _*_, _≤_, _<_}
 use native.Mathlib.Omega.{arith}
 use lib.Dec.{leb, ltb}
 use lib.ListN.{length, take}
-use Rattle.words.specs.declared.Found.{Found}
+use Rattle.text.specs.declared.Found.{Found}
 use Rattle.words.specs.declared.Line.{Line}
-use Rattle.words.specs.Fields.{lineEnd, newline}
-use Rattle.words.proofs.Fields.{found-at}
+use Rattle.text.specs.Fields.{lineEnd, newline}
+use Rattle.text.proofs.Fields.{found-at}
 use Rattle.answers.specs.declared.Verdict.{Verdict}
 use Rattle.answers.specs.declared.Verdict.the-variants.{Yes, No}
 use Rattle.answers.specs.Answers.{answerOf, isYes, onYes}

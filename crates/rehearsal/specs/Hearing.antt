@@ -4,9 +4,9 @@ use mathlib.Core.Bool.{true, false}
 use mathlib.Core.List.{List}
 use Prim.Native.Nat.{ℕ, _+_, _-_}
 use lib.ListN.{length, take, drop}
-use Rattle.words.specs.declared.Found.{Found}
+use Rattle.text.specs.declared.Found.{Found}
 use Rattle.words.specs.declared.Line.{Line}
-use Rattle.words.specs.Fields.{lineEnd}
+use Rattle.text.specs.Fields.{lineEnd}
 use Rattle.words.specs.Lines.{lineOf}
 use Rattle.desk.specs.declared.Answer.{Answer}
 use Rattle.desk.specs.Asking.{Asked}

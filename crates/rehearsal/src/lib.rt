@@ -4,7 +4,7 @@ use answers::Who;
 use desk::Desk;
 use feeds::Feed;
 use sayings::Said;
-use words::Found;
+use text::Found;
 use words::Line;
 ghost use mathlib.Core.Path.{_≡_};
 ghost use Prim.Native.Nat.{_≤_, _<_, _^_};
@@ -262,7 +262,7 @@ impl Session {
     {
         let from = place.from;
         let line = place.lines + 1;
-        match words::line_end(input, from) {
+        match text::line_end(input, from) {
             Found::At(end) => {
                 let next = end + 1;
                 Read {

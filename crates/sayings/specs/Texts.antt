@@ -3,8 +3,8 @@ use mathlib.Core.Bool.{cond}
 use mathlib.Core.List.{List, [], _++_}
 use Prim.Native.Nat.{ℕ}
 use lib.Dec.{eqb}
-use Rattle.words.specs.Text.{spelt}
-use Rattle.words.specs.Numbers.{digits}
+use Rattle.text.specs.Text.{spelt}
+use Rattle.text.specs.Numbers.{digits}
 use Rattle.sayings.specs.declared.Said.{Said}
 
 -- no answer is longer than this

@@ -3,8 +3,8 @@ use crate::Said;
 ghost use mathlib.Core.List.{_++_};
 ghost use Prim.Native.Nat.{_+_, _≤_};
 ghost use lib.ListN.{length};
-ghost use Rattle.words.specs.Put.{Put};
-ghost use Rattle.words.specs.Numbers.{digits};
+ghost use Rattle.text.specs.Put.{Put};
+ghost use Rattle.text.specs.Numbers.{digits};
 ghost use Rattle.sayings.specs.Texts.{mostText, verdictText, callText, askText, tickText, textOf};
 
 // No answer is longer than this.
@@ -15,9 +15,9 @@ fn worded(out: &mut [u8], at: usize, front: &[u8], n: u64, back: &[u8]) -> usize
     requires { ⌜ at + (length (now front) + (20 + length (now back))) ≤ length (now out) ⌝ }
     ensures { λ r. ⌜ Put (now (out .entry)) (now (out .exit)) at r (now (front .entry) ++ (digits n ++ now (back .entry))) ⌝ }
 {
-    let a = words::put::text(out, at, front);
-    let b = words::put::number(out, a, n);
-    words::put::text(out, b, back)
+    let a = text::put::text(out, at, front);
+    let b = text::put::number(out, a, n);
+    text::put::text(out, b, back)
 }
 
 // A yes in its word, or `no` and the number.
@@ -26,7 +26,7 @@ fn verdict(out: &mut [u8], at: usize, yes: &[u8], refusal: u32) -> usize
     ensures { λ r. ⌜ Put (now (out .entry)) (now (out .exit)) at r (verdictText (now (yes .entry)) refusal) ⌝ }
 {
     if refusal == 0 {
-        return words::put::text(out, at, yes);
+        return text::put::text(out, at, yes);
     }
     worded(out, at, b"no ", refusal as u64, b"\n")
 }
@@ -36,7 +36,7 @@ fn called(out: &mut [u8], at: usize, word: &[u8], refusal: u32) -> usize
     requires { ⌜ (at + mostText ≤ length (now out)) × (length (now word) ≤ 8) ⌝ }
     ensures { λ r. ⌜ Put (now (out .entry)) (now (out .exit)) at r (callText (now (word .entry)) refusal) ⌝ }
 {
-    let a = words::put::text(out, at, word);
+    let a = text::put::text(out, at, word);
     verdict(out, a, b"ok\n", refusal)
 }
 
@@ -53,7 +53,7 @@ fn ticked(out: &mut [u8], at: usize, instant: u64, word: &[u8], n: u32) -> usize
     requires { ⌜ (at + mostText ≤ length (now out)) × (length (now word) ≤ 8) ⌝ }
     ensures { λ r. ⌜ Put (now (out .entry)) (now (out .exit)) at r (tickText instant (now (word .entry)) n) ⌝ }
 {
-    let a = words::put::number(out, at, instant);
+    let a = text::put::number(out, at, instant);
     worded(out, a, word, n as u64, b"\n")
 }
 

@@ -4,10 +4,11 @@ use mathlib.Core.List.{List, [], _∷_, map}
 use Prim.Native.String.{String}
 use lib.ListN.{replicate}
 use Rattle.words.specs.declared.Line.{Line}
-use Rattle.words.specs.declared.Found.{Found}
-use Rattle.words.specs.Text.{spelt}
-use Rattle.words.specs.Numbers.{isDigit, allDigits, counted, isShaped, numberOf, smallOf, digitsIn, digits}
-use Rattle.words.specs.Fields.{same, foundIn, lineEnd, fieldsOf}
+use Rattle.text.specs.declared.Found.{Found}
+use Rattle.text.specs.Text.{spelt}
+use Rattle.text.specs.Numbers.{isDigit, allDigits, counted, isShaped, numberIn}
+use Rattle.words.specs.Small.{smallOf}
+use Rattle.text.specs.Fields.{same, foundIn, lineEnd, parted}
 use Rattle.words.specs.Lines.{wordIn, oneOf, threeOf, fourOf, goOf, saidOf, meaningOf, lineOf}
 
 -- each word with its numbers, and the largest of them
@@ -21,7 +22,7 @@ pub good :
     × (lineOf (spelt "go 9999999999999 4294967295") ≡ Line.Go 9999999999999 4294967295)
     × (lineOf (spelt "feed 4294967295 0 4294967295 1") ≡ Line.Feed 4294967295 0 4294967295 1)
     × (lineOf (spelt "run 4096") ≡ Line.Run 4096)
-unfolding lineOf meaningOf saidOf threeOf fourOf goOf oneOf wordIn fieldsOf same smallOf numberOf isShaped counted allDigits isDigit
+unfolding lineOf meaningOf saidOf threeOf fourOf goOf oneOf wordIn parted same smallOf numberIn isShaped counted allDigits isDigit
 good = (refl, refl, refl, refl, refl, refl, refl, refl, refl)
 
 -- nothing, no such word, another letter
@@ -45,27 +46,5 @@ pub bad :
     × (map (λ t. lineOf (spelt t)) other-counts ≡ replicate 14 Line.Bad)
     × (map (λ t. lineOf (spelt t)) other-spaces ≡ replicate 9 Line.Bad)
     × (map (λ t. lineOf (spelt t)) other-numbers ≡ replicate 18 Line.Bad)
-unfolding lineOf meaningOf saidOf threeOf fourOf goOf oneOf wordIn fieldsOf same smallOf numberOf isShaped counted allDigits isDigit
+unfolding lineOf meaningOf saidOf threeOf fourOf goOf oneOf wordIn parted same smallOf numberIn isShaped counted allDigits isDigit
 bad = (refl, refl, refl, refl)
-
--- the ends of two lines, and no third
-pub ends :
-    (lineEnd (spelt "go 0\nrun 1\n") 0 ≡ Found.At 4)
-    × (lineEnd (spelt "go 0\nrun 1\n") 4 ≡ Found.At 4)
-    × (lineEnd (spelt "go 0\nrun 1\n") 5 ≡ Found.At 10)
-    × (lineEnd (spelt "go 0\nrun 1\n") 11 ≡ Found.Nothing)
-    × (lineEnd (spelt "go 0") 0 ≡ Found.Nothing)
-    × (lineEnd (spelt "") 7 ≡ Found.Nothing)
-unfolding foundIn
-ends = (refl, refl, refl, refl, refl, refl)
-
--- in decimal
-pub written :
-    (digits 0 ≡ spelt "0")
-    × (digits 9 ≡ spelt "9")
-    × (digits 10 ≡ spelt "10")
-    × (digits 4096 ≡ spelt "4096")
-    × (digits 1099511627776 ≡ spelt "1099511627776")
-    × (digits 18446744073709551615 ≡ spelt "18446744073709551615")
-unfolding digits digitsIn
-written = (refl, refl, refl, refl, refl, refl)

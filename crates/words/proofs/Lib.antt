@@ -1,5 +1,2 @@
-pub mod Fields
-pub mod Numbers
-pub mod Texts
 pub mod Lines
 pub mod Examples

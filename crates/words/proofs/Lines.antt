@@ -7,19 +7,20 @@ use Prim.Native.String.{String}
 use native.Mathlib.Nat.{le-refl, sub-zero}
 use lib.ListN.{length, take, drop, length-drop}
 use lib.Seq.{take-all}
-use Rattle.words.specs.declared.Found.{Found}
-use Rattle.words.specs.declared.Number.{Number}
+use Rattle.text.specs.declared.Found.{Found}
+use Rattle.text.specs.declared.Number.{Number}
 use Rattle.words.specs.declared.Small.{Small}
 use Rattle.words.specs.declared.Three.{Three}
 use Rattle.words.specs.declared.Four.{Four}
 use Rattle.words.specs.declared.Word.{Word}
 use Rattle.words.specs.declared.Line.{Line}
-use Rattle.words.specs.Numbers.{isDigit, numberOf, smallOf}
-use Rattle.words.specs.Fields.{space, same, foundIn, fieldsOf}
-use Rattle.words.specs.Text.{spelt}
+use Rattle.text.specs.Numbers.{mostDigits, isDigit, numberOf}
+use Rattle.words.specs.Small.{smallOf}
+use Rattle.text.specs.Fields.{space, same, foundIn, fieldsOf}
+use Rattle.text.specs.Text.{spelt}
 use Rattle.words.specs.Lines.{wordIn, wordOf, oneOf, allThree, threeOf, andThree, fourOf, going, goOf, saidOf, meaningOf, lineOf}
-use Rattle.words.proofs.Fields.{Cut, found-at, cut-at, cut-nowhere, fields-some}
-use Rattle.words.proofs.Numbers.{digits-other, number-other}
+use Rattle.text.proofs.Fields.{Cut, found-at, cut-at, cut-nowhere, fields-some, rest-part}
+use Rattle.text.proofs.Numbers.{digits-other, number-other}
 
 module _ (w : String × Word) (ws : List (String × Word)) (f : List ℕ) where
   pub word-here : same f (spelt (w .0)) ≡ true → wordIn (w ∷ ws) f ≡ w .1
@@ -42,7 +43,7 @@ one-many : (f : List ℕ) (fs : List (List ℕ)) → (g : List ℕ) × (gs : Lis
 unfolding oneOf
 one-many f fs h = ap (λ l. oneOf (f ∷ l)) (h .2)
 
-space-no-digit : (b : ℕ) → b ≡ space → isDigit b ≡ false
+space-no-digit : (b : ℕ) → b ≡ space → isDigit 10 b ≡ false
 unfolding isDigit
 space-no-digit b e = rw e
 
@@ -53,17 +54,13 @@ one-number s = go (foundIn space 0 s) refl
     go : (r : Found) → foundIn space 0 s ≡ r → oneOf (fieldsOf s) ≡ numberOf s
     go (Found.At k) e =
         let p = found-at space s 0 k e in
-        ap oneOf (cut-at s 0 k e .fields)
-        ∙ one-many _ _ (fields-some (drop (k + 1) s))
-        ∙ number-other s (digits-other s k (p .inside) (space-no-digit _ (p .holds)))
-    go Found.Nothing e = ap oneOf (cut-nowhere s 0 e) ∙ one-whole s
-
--- the part from a place to the end
-rest-part : (s : List ℕ) (from : ℕ) → take (length s - from) (drop from s) ≡ drop from s
-rest-part s from = take-all (length s - from) (drop from s) (rw length-drop (le-refl (length s - from)))
+        ap oneOf (cut-at space s 0 k e .fields)
+        ∙ one-many _ _ (fields-some space (drop (k + 1) s))
+        ∙ number-other 10 mostDigits s (digits-other 10 s k (p .inside) (space-no-digit _ (p .holds)))
+    go Found.Nothing e = ap oneOf (cut-nowhere space s 0 e) ∙ one-whole s
 
 -- the first field and what follows it
-fields-cut : (s : List ℕ) (k : ℕ) → Cut s 0 k → fieldsOf s ≡ take k s ∷ fieldsOf (drop (k + 1) s)
+fields-cut : (s : List ℕ) (k : ℕ) → Cut space s 0 k → fieldsOf s ≡ take k s ∷ fieldsOf (drop (k + 1) s)
 fields-cut s k p = p .fields ∙ ap (λ n. take n s ∷ fieldsOf (drop (k + 1) s)) (sub-zero k)
 
 three-two : (f g : List ℕ) (fs : List (List ℕ)) → threeOf (f ∷ g ∷ fs) ≡ allThree (smallOf (numberOf f)) (smallOf (numberOf g)) (smallOf (oneOf fs))
@@ -71,7 +68,7 @@ unfolding threeOf
 three-two f g fs = refl
 
 -- three fields, cut at the spaces at j and k
-pub three-cut : (s : List ℕ) (j k : ℕ) → Cut s 0 j → Cut s (j + 1) k
+pub three-cut : (s : List ℕ) (j k : ℕ) → Cut space s 0 j → Cut space s (j + 1) k
     → threeOf (fieldsOf s)
     ≡ allThree (smallOf (numberOf (take j s))) (smallOf (numberOf (take (k - (j + 1)) (drop (j + 1) s))))
     (smallOf (numberOf (take (length s - (k + 1)) (drop (k + 1) s))))
@@ -91,17 +88,17 @@ third-missing Small.Not b = refl
 -- one field is not three
 pub three-of-one : (s : List ℕ) → foundIn space 0 s ≡ Found.Nothing → Three.Not ≡ threeOf (fieldsOf s)
 unfolding threeOf
-three-of-one s e = sym (ap threeOf (cut-nowhere s 0 e))
+three-of-one s e = sym (ap threeOf (cut-nowhere space s 0 e))
 
 -- nor are two
-pub three-of-two : (s : List ℕ) (j : ℕ) → Cut s 0 j → foundIn space (j + 1) (drop (j + 1) s) ≡ Found.Nothing → Three.Not ≡ threeOf (fieldsOf s)
+pub three-of-two : (s : List ℕ) (j : ℕ) → Cut space s 0 j → foundIn space (j + 1) (drop (j + 1) s) ≡ Found.Nothing → Three.Not ≡ threeOf (fieldsOf s)
 three-of-two s j p e =
-    sym (ap threeOf (fields-cut s j p ∙ ap (λ fs. take j s ∷ fs) (cut-nowhere s (j + 1) e))
+    sym (ap threeOf (fields-cut s j p ∙ ap (λ fs. take j s ∷ fs) (cut-nowhere space s (j + 1) e))
     ∙ three-two _ _ _
     ∙ third-missing (smallOf (numberOf (take j s))) (smallOf (numberOf (drop (j + 1) s))))
 
 -- four fields, cut at the space at k
-pub four-cut : (s : List ℕ) (k : ℕ) → Cut s 0 k
+pub four-cut : (s : List ℕ) (k : ℕ) → Cut space s 0 k
     → fourOf (fieldsOf s) ≡ andThree (smallOf (numberOf (take k s))) (threeOf (fieldsOf (take (length s - (k + 1)) (drop (k + 1) s))))
 unfolding fourOf
 four-cut s k p =
@@ -116,10 +113,10 @@ others-missing Small.Not = refl
 -- one field is not four
 pub four-of-one : (s : List ℕ) → foundIn space 0 s ≡ Found.Nothing → Four.Not ≡ fourOf (fieldsOf s)
 unfolding fourOf
-four-of-one s e = sym (ap fourOf (cut-nowhere s 0 e) ∙ others-missing (smallOf (numberOf s)))
+four-of-one s e = sym (ap fourOf (cut-nowhere space s 0 e) ∙ others-missing (smallOf (numberOf s)))
 
 -- an opening's two fields, cut at the space at k
-pub go-cut : (s : List ℕ) (k : ℕ) → Cut s 0 k
+pub go-cut : (s : List ℕ) (k : ℕ) → Cut space s 0 k
     → goOf (fieldsOf s) ≡ going (numberOf (take k s)) (smallOf (numberOf (take (length s - (k + 1)) (drop (k + 1) s))))
 unfolding goOf
 go-cut s k p =
@@ -134,7 +131,7 @@ charge-missing Number.Not = refl
 -- one field opens nothing
 pub go-of-one : (s : List ℕ) → foundIn space 0 s ≡ Found.Nothing → Line.Bad ≡ goOf (fieldsOf s)
 unfolding goOf
-go-of-one s e = sym (ap goOf (cut-nowhere s 0 e) ∙ charge-missing (numberOf s))
+go-of-one s e = sym (ap goOf (cut-nowhere space s 0 e) ∙ charge-missing (numberOf s))
 
 -- a word alone says nothing
 said-alone : (w : Word) → saidOf w [] ≡ Line.Bad
@@ -149,10 +146,10 @@ said-alone Word.Other = refl
 
 pub line-alone : (s : List ℕ) → foundIn space 0 s ≡ Found.Nothing → Line.Bad ≡ lineOf s
 unfolding lineOf meaningOf
-line-alone s e = sym (ap meaningOf (cut-nowhere s 0 e) ∙ said-alone (wordOf s))
+line-alone s e = sym (ap meaningOf (cut-nowhere space s 0 e) ∙ said-alone (wordOf s))
 
 -- a word, and the fields after the first space
-pub line-cut : (s : List ℕ) (k : ℕ) → Cut s 0 k
+pub line-cut : (s : List ℕ) (k : ℕ) → Cut space s 0 k
     → lineOf s ≡ saidOf (wordOf (take k s)) (fieldsOf (take (length s - (k + 1)) (drop (k + 1) s)))
 unfolding lineOf meaningOf
 line-cut s k p =

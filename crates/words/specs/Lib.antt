@@ -1,5 +1,2 @@
-pub mod Text
-pub mod Numbers
-pub mod Fields
+pub mod Small
 pub mod Lines
-pub mod Put

@@ -4,15 +4,16 @@ use mathlib.Core.List.{List, [], _∷_}
 use Prim.Native.Nat.{ℕ}
 use Prim.Native.String.{String}
 use lib.Dec.{leb}
-use Rattle.words.specs.declared.Number.{Number}
+use Rattle.text.specs.declared.Number.{Number}
 use Rattle.words.specs.declared.Small.{Small}
 use Rattle.words.specs.declared.Three.{Three}
 use Rattle.words.specs.declared.Four.{Four}
 use Rattle.words.specs.declared.Word.{Word}
 use Rattle.words.specs.declared.Line.{Line}
-use Rattle.words.specs.Text.{spelt}
-use Rattle.words.specs.Numbers.{numberOf, smallOf}
-use Rattle.words.specs.Fields.{same, fieldsOf}
+use Rattle.text.specs.Text.{spelt}
+use Rattle.text.specs.Numbers.{numberOf}
+use Rattle.words.specs.Small.{smallOf}
+use Rattle.text.specs.Fields.{same, fieldsOf}
 
 -- a run has at most so many ticks
 abbrev pub mostRun : ℕ

@@ -1,25 +1,13 @@
-// The words of the rehearsal: what a line of input means, and how words and decimal numbers are put into a lent buffer.
+// The words of the rehearsal: what a line of input means.
 // It must not know feeds, jobs, clocks, the desk's limits, or where in a rehearsal a line stands.
+use text::Found;
+use text::Number;
 ghost use mathlib.Core.Path.{_≡_};
-ghost use Rattle.words.specs.Numbers.{isDigit, isShaped, numberOf, smallOf};
-ghost use Rattle.words.specs.Fields.{same, foundIn, lineEnd, fieldsOf};
+ghost use Rattle.text.specs.Numbers.{numberOf};
+ghost use Rattle.text.specs.Fields.{fieldsOf};
+ghost use Rattle.words.specs.Small.{smallOf};
 ghost use Rattle.words.specs.Lines.{wordOf, allThree, threeOf, andThree, fourOf, going, goOf, runOf, saidOf};
 ghost use Rattle.words.specs.Lines.{lineOf};
-ghost use lib.ListN.{drop};
-
-pub mod put;
-
-// Where a byte stands, or that it stands nowhere.
-pub enum Found {
-    At(usize),
-    Nothing,
-}
-
-// What a field is as a number.
-enum Number {
-    Is(u64),
-    Not,
-}
 
 // What a field is as a number that is not too large for its place.
 enum Small {
@@ -61,11 +49,6 @@ pub enum Line {
     Bad,
 }
 
-impl Number {
-    // The rehearsal's own limit on how many digits a number has.
-    const DIGITS: usize = 13;
-}
-
 impl Small {
     // The rehearsal's own limit on a number's size, the opening instant apart.
     const MOST: u64 = 0xFFFF_FFFF;
@@ -76,81 +59,10 @@ impl Line {
     pub const RUN: u32 = 4096;
 }
 
-// The first place from `from` on that holds the byte.
-fn find(s: &[u8], from: usize, byte: u8) -> Found
-    ensures { λ r. ⌜ r ≡ foundIn byte from (drop from (now (s .entry))) ⌝ }
-{
-    let mut i = from;
-    while i < s.len() {
-        if s[i] == byte {
-            return Found::At(i);
-        }
-        i += 1;
-    }
-    Found::Nothing
-}
-
-// The first place from `from` on that holds a newline.
-pub fn line_end(s: &[u8], from: usize) -> Found
-    ensures { λ r. ⌜ r ≡ lineEnd (now (s .entry)) from ⌝ }
-{
-    find(s, from, b'\n')
-}
-
-fn is_digit(b: u8) -> bool
-    ensures { λ r. ⌜ r ≡ isDigit b ⌝ }
-{
-    if b < b'0' {
-        return false;
-    }
-    b <= b'9'
-}
-
-// 1 to 13 bytes, and no 0 in front of others.
-fn is_shaped(s: &[u8]) -> bool
-    ensures { λ r. ⌜ r ≡ isShaped (now (s .entry)) ⌝ }
-{
-    if s.len() < 1 {
-        return false;
-    }
-    if Number::DIGITS < s.len() {
-        return false;
-    }
-    if s.len() == 1 {
-        return true;
-    }
-    s[0] != b'0'
-}
-
-fn read_number(s: &[u8]) -> Number
-    ensures { λ r. ⌜ r ≡ numberOf (now (s .entry)) ⌝ }
-{
-    if !is_shaped(s) {
-        return Number::Not;
-    }
-    let mut n: u64 = 0;
-    let mut i = 0;
-    while i < s.len() {
-        let b = s[i];
-        if !is_digit(b) {
-            return Number::Not;
-        }
-        n = n * 10 + wide(b - b'0');
-        i += 1;
-    }
-    Number::Is(n)
-}
-
-fn wide(b: u8) -> u64
-    ensures { λ r. ⌜ r ≡ b ⌝ }
-{
-    b as u64
-}
-
 fn read_small(s: &[u8]) -> Small
     ensures { λ r. ⌜ r ≡ smallOf (numberOf (now (s .entry))) ⌝ }
 {
-    let Number::Is(n) = read_number(s) else {
+    let Number::Is(n) = text::read_number(s) else {
         return Small::Not;
     };
     if n <= Small::MOST {
@@ -178,11 +90,11 @@ fn all_three(a: Small, b: Small, c: Small) -> Three
 fn read_three(s: &[u8]) -> Three
     ensures { λ r. ⌜ r ≡ threeOf (fieldsOf (now (s .entry))) ⌝ }
 {
-    let Found::At(first) = find(s, 0, b' ') else {
+    let Found::At(first) = text::find(s, 0, b' ') else {
         return Three::Not;
     };
     let from = first + 1;
-    let Found::At(second) = find(s, from, b' ') else {
+    let Found::At(second) = text::find(s, from, b' ') else {
         return Three::Not;
     };
     let last = second + 1;
@@ -209,7 +121,7 @@ fn and_three(first: Small, others: Three) -> Four
 fn read_four(s: &[u8]) -> Four
     ensures { λ r. ⌜ r ≡ fourOf (fieldsOf (now (s .entry))) ⌝ }
 {
-    let Found::At(end) = find(s, 0, b' ') else {
+    let Found::At(end) = text::find(s, 0, b' ') else {
         return Four::Not;
     };
     let last = end + 1;
@@ -232,48 +144,32 @@ fn going(start: Number, charge: Small) -> Line
 fn read_go(s: &[u8]) -> Line
     ensures { λ r. ⌜ r ≡ goOf (fieldsOf (now (s .entry))) ⌝ }
 {
-    let Found::At(end) = find(s, 0, b' ') else {
+    let Found::At(end) = text::find(s, 0, b' ') else {
         return Line::Bad;
     };
     let last = end + 1;
-    going(read_number(&s[..end]), read_small(&s[last..]))
-}
-
-fn is_word(s: &[u8], word: &[u8]) -> bool
-    ensures { λ r. ⌜ r ≡ same (now (s .entry)) (now (word .entry)) ⌝ }
-{
-    if s.len() != word.len() {
-        return false;
-    }
-    let mut i = 0;
-    while i < s.len() {
-        if s[i] != word[i] {
-            return false;
-        }
-        i += 1;
-    }
-    true
+    going(text::read_number(&s[..end]), read_small(&s[last..]))
 }
 
 fn read_word(s: &[u8]) -> Word
     ensures { λ r. ⌜ r ≡ wordOf (now (s .entry)) ⌝ }
 {
-    if is_word(s, b"feed") {
+    if text::is_word(s, b"feed") {
         return Word::Feed;
     }
-    if is_word(s, b"go") {
+    if text::is_word(s, b"go") {
         return Word::Go;
     }
-    if is_word(s, b"ask") {
+    if text::is_word(s, b"ask") {
         return Word::Ask;
     }
-    if is_word(s, b"end") {
+    if text::is_word(s, b"end") {
         return Word::End;
     }
-    if is_word(s, b"rest") {
+    if text::is_word(s, b"rest") {
         return Word::Rest;
     }
-    if is_word(s, b"run") {
+    if text::is_word(s, b"run") {
         return Word::Run;
     }
     Word::Other
@@ -323,7 +219,7 @@ fn run(n: u32) -> Line
 pub fn read_line(s: &[u8]) -> Line
     ensures { λ r. ⌜ r ≡ lineOf (now (s .entry)) ⌝ }
 {
-    let Found::At(end) = find(s, 0, b' ') else {
+    let Found::At(end) = text::find(s, 0, b' ') else {
         return Line::Bad;
     };
     let from = end + 1;

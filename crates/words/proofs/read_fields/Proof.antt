@@ -5,8 +5,8 @@ use Prim.Native.Nat.{ℕ}
 use Rattle.words.specs.declared.Word.{Word}
 use Rattle.words.specs.declared.Line.{Line}
 use denote.Ref.{now}
-use Rattle.words.specs.Numbers.{smallOf}
-use Rattle.words.specs.Fields.{fieldsOf}
+use Rattle.words.specs.Small.{smallOf}
+use Rattle.text.specs.Fields.{fieldsOf}
 use Rattle.words.specs.Lines.{saidOf, runOf, withOne, withThree, withFour}
 use Rattle.words.proofs.Lines.{one-number}
 use borrow.Author.Needs.{needs}

@@ -3,14 +3,15 @@ use mathlib.Core.Path.{sym, _∙_}
 use native.Mathlib.Omega.{arith}
 use lib.Seq.{length-take-le}
 use denote.Ref.{now}
-use Rattle.words.proofs.Fields.{Cut, cut-at}
+use Rattle.text.specs.Fields.{space}
+use Rattle.text.proofs.Fields.{Cut, cut-at}
 use Rattle.words.proofs.Lines.{line-cut, line-alone}
 use borrow.Author.Needs.{needs}
 use Rattle.words.proofs.read_line.Statement.{statement}
 use Rattle.words.proofs.read_line.Tie as tie
 
-word-cut : (c : tie.After-known-told) → Cut (now (c .before .before .before .before .before .args .s)) 0 (c .before .end .given .0 .0)
-word-cut c = cut-at _ 0 _ (sym (c .before .before .before .find .ensures) ∙ c .before .end .given .1)
+word-cut : (c : tie.After-known-told) → Cut space (now (c .before .before .before .before .before .args .s)) 0 (c .before .end .given .0 .0)
+word-cut c = cut-at space _ 0 _ (sym (c .before .before .before .find .ensures) ∙ c .before .end .given .1)
 
 find-requires : tie.Need-find-requires
 find-requires c κs = search needs

@@ -2,7 +2,7 @@
 use mathlib.Core.Path.{sym, _∙_}
 use native.Mathlib.Omega.{arith}
 use borrow.Author.Tests.{le-leb, lt-leb}
-use Rattle.words.specs.Numbers.{mostSmall, smallOf}
+use Rattle.words.specs.Small.{mostSmall, smallOf}
 use borrow.Author.Needs.{needs}
 use Rattle.words.proofs.read_small.Statement.{statement}
 use Rattle.words.proofs.read_small.Tie as tie

@@ -4,20 +4,21 @@ use native.Mathlib.Omega.{arith}
 use lib.Seq.{length-take-le}
 use denote.Ref.{now}
 use Prim.Native.Nat.{_+_}
-use Rattle.words.proofs.Fields.{Cut, cut-at}
+use Rattle.text.specs.Fields.{space}
+use Rattle.text.proofs.Fields.{Cut, cut-at}
 use Rattle.words.proofs.Lines.{three-cut, three-of-one, three-of-two}
 use borrow.Author.Needs.{needs}
 use Rattle.words.proofs.read_three.Statement.{statement}
 use Rattle.words.proofs.read_three.Tie as tie
 
-first-cut : (c : tie.After-known-told) → Cut (now (c .before .before .before .before .before .args .s)) 0 (c .before .first .given .0 .0)
-first-cut c = cut-at _ 0 _ (sym (c .before .before .before .find .ensures) ∙ c .before .first .given .1)
+first-cut : (c : tie.After-known-told) → Cut space (now (c .before .before .before .before .before .args .s)) 0 (c .before .first .given .0 .0)
+first-cut c = cut-at space _ 0 _ (sym (c .before .before .before .find .ensures) ∙ c .before .first .given .1)
 
 second-cut : (c : tie.After-known-told2)
-    → Cut (now (c .before .before .before .before .before .before .before .before .before .args .s))
+    → Cut space (now (c .before .before .before .before .before .before .before .before .before .args .s))
     (c .before .before .before .before .before .first .given .0 .0 + 1)
     (c .before .second .given .0 .0)
-second-cut c = cut-at _ _ _ (sym (c .before .before .before .find2 .ensures) ∙ c .before .second .given .1)
+second-cut c = cut-at space _ _ _ (sym (c .before .before .before .find2 .ensures) ∙ c .before .second .given .1)
 
 find-requires : tie.Need-find-requires
 find-requires c κs = search needs

@@ -2,9 +2,9 @@
 use mathlib.Core.Path.{_≡_, refl, sym, _∙_}
 use native.Mathlib.Omega.{arith}
 use borrow.Author.Needs.{needs}
-use Rattle.words.specs.declared.Found.{Found}
-use Rattle.words.specs.Fields.{lineEnd, newline}
-use Rattle.words.proofs.Fields.{Stands, found-at}
+use Rattle.text.specs.declared.Found.{Found}
+use Rattle.text.specs.Fields.{lineEnd, newline}
+use Rattle.text.proofs.Fields.{Stands, found-at}
 use Rattle.rehearsal.specs.Hearing.{HeardTo}
 use Rattle.rehearsal.proofs.Session.read.Statement.{statement}
 use Rattle.rehearsal.proofs.Session.read.Tie as tie

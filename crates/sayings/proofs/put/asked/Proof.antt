@@ -1,7 +1,7 @@
 use native.Mathlib.Omega.{arith}
 use lib.ListN.{length-append}
-use Rattle.words.proofs.Numbers.{digits-wide}
-use Rattle.words.proofs.Texts.{put-length, put-after}
+use Rattle.text.proofs.Numbers.{digits-wide}
+use Rattle.text.proofs.Texts.{put-length, put-after}
 use borrow.Author.Needs.{needs}
 use Rattle.sayings.proofs.put.asked.Statement.{statement}
 use Rattle.sayings.proofs.put.asked.Tie as tie

@@ -1,4 +1,4 @@
-use Rattle.words.proofs.Texts.{put-after}
+use Rattle.text.proofs.Texts.{put-after}
 use borrow.Author.Needs.{needs}
 use Rattle.sayings.proofs.put.called.Statement.{statement}
 use Rattle.sayings.proofs.put.called.Tie as tie

@@ -1,5 +1,5 @@
 use native.Mathlib.Omega.{arith}
-use Rattle.words.proofs.Texts.{put-nothing}
+use Rattle.text.proofs.Texts.{put-nothing}
 use Rattle.sayings.specs.Texts.{textOf}
 use borrow.Author.Needs.{needs}
 use Rattle.sayings.proofs.put.said.Statement.{statement}

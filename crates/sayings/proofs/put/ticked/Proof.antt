@@ -1,6 +1,6 @@
 use native.Mathlib.Omega.{arith}
-use Rattle.words.proofs.Numbers.{digits-wide}
-use Rattle.words.proofs.Texts.{put-length, put-after}
+use Rattle.text.proofs.Numbers.{digits-wide}
+use Rattle.text.proofs.Texts.{put-length, put-after}
 use borrow.Author.Needs.{needs}
 use Rattle.sayings.proofs.put.ticked.Statement.{statement}
 use Rattle.sayings.proofs.put.ticked.Tie as tie

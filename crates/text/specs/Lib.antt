@@ -1,0 +1,4 @@
+pub mod Text
+pub mod Numbers
+pub mod Fields
+pub mod Put

@@ -1,0 +1,58 @@
+// How text goes into a lent buffer: each function puts its text at a place and hands back the place after it.
+ghost use Prim.Native.Nat.{_+_, _≤_, _<_};
+ghost use mathlib.Core.List.{[], _∷_};
+ghost use lib.ListN.{length};
+ghost use Rattle.text.specs.Put.{Put};
+ghost use Rattle.text.specs.Numbers.{Base, numeral, digits, bits};
+
+pub fn byte(out: &mut [u8], at: usize, b: u8) -> usize
+    requires { ⌜ at < length (now out) ⌝ }
+    ensures { λ r. ⌜ Put (now (out .entry)) (now (out .exit)) at r (b ∷ []) ⌝ }
+{
+    out[at] = b;
+    at + 1
+}
+
+pub fn text(out: &mut [u8], at: usize, bytes: &[u8]) -> usize
+    requires { ⌜ at + length (now bytes) ≤ length (now out) ⌝ }
+    ensures { λ r. ⌜ Put (now (out .entry)) (now (out .exit)) at r (now (bytes .entry)) ⌝ }
+{
+    let mut to = at;
+    let mut i = 0;
+    while i < bytes.len() {
+        out[to] = bytes[i];
+        to += 1;
+        i += 1;
+    }
+    to
+}
+
+// In a base from 2 to 10.
+fn number_in(out: &mut [u8], at: usize, n: u64, base: u8) -> usize
+    requires { ⌜ Base base × (at + length (numeral base n) ≤ length (now out)) ⌝ }
+    ensures { λ r. ⌜ Put (now (out .entry)) (now (out .exit)) at r (numeral base n) ⌝ }
+{
+    let times = base as u64;
+    let last = b'0' + (n % times) as u8;
+    if n < times {
+        return byte(out, at, last);
+    }
+    let to = number_in(out, at, n / times, base);
+    byte(out, to, last)
+}
+
+// In decimal.
+pub fn number(out: &mut [u8], at: usize, n: u64) -> usize
+    requires { ⌜ at + length (digits n) ≤ length (now out) ⌝ }
+    ensures { λ r. ⌜ Put (now (out .entry)) (now (out .exit)) at r (digits n) ⌝ }
+{
+    number_in(out, at, n, 10)
+}
+
+// In binary.
+pub fn bits(out: &mut [u8], at: usize, n: u64) -> usize
+    requires { ⌜ at + length (bits n) ≤ length (now out) ⌝ }
+    ensures { λ r. ⌜ Put (now (out .entry)) (now (out .exit)) at r (bits n) ⌝ }
+{
+    number_in(out, at, n, 2)
+}

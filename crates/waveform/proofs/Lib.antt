@@ -1,0 +1,10 @@
+-- The laws that every crate above needs.
+pub mod Written
+pub mod Names
+pub mod Read
+pub mod Live
+pub mod Bytes
+pub mod Plain
+pub mod Texts
+pub mod Judging
+pub mod Examples
