@@ -1,4 +1,4 @@
--- `words::find` meets its contract: what is found is what is found in the bytes still to look at.
+-- `text::find` meets its contract: what is found is what is found in the bytes still to look at.
 -- Assumes nothing.
 use mathlib.Core.Path.{_≡_, refl, sym, ap, _∙_}
 use Prim.Native.Nat.{_-_}

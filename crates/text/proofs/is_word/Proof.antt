@@ -1,4 +1,4 @@
--- `words::is_word` meets its contract: the words are the same where the bytes still to compare are.
+-- `text::is_word` meets its contract: the words are the same where the bytes still to compare are.
 -- Assumes nothing.
 use mathlib.Core.Path.{_≡_, refl, sym, ap₂, _∙_}
 use mathlib.Core.List.{List, _∷_}

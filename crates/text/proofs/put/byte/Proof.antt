@@ -1,4 +1,4 @@
--- `words::put::byte` meets its contract. Assumes nothing.
+-- `text::put::byte` meets its contract. Assumes nothing.
 use Rattle.text.proofs.Texts.{put-one}
 use denote.Ref.{now}
 use borrow.Author.Needs.{needs}

@@ -1,4 +1,4 @@
--- `words::put::text` meets its contract: before each turn the bytes passed are put. Assumes nothing.
+-- `text::put::text` meets its contract: before each turn the bytes passed are put. Assumes nothing.
 use mathlib.Core.Path.{_≡_, sym, ap, _∙_, subst}
 use Prim.Native.Nat.{_+_, _-_, _≤_, _<_}
 use native.Mathlib.Numerals.{add-one}
