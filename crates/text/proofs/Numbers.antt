@@ -8,6 +8,7 @@ use native.Mathlib.Nat.{
   lt-of-lt-of-le,
   pow-suc,
   pow-zero,
+  pow-le-pow-left,
   pow-le-pow-right,
   mul-le-mul-left,
   mod-lt,
@@ -225,6 +226,10 @@ module _ (base : ℕ) (b : Base base) where
       go (no p) ih =
           let l : n / base < base ^ suc k = div-lt-iff-lt-mul {k = base} {x = n} {y = base ^ suc k} (omega (arith, b .two)) .1 (omega (arith, h, pow-suc base (suc k))) in
           omega (arith, digits-longer n (omega (arith, p)), ih l)
+
+  -- a number of 64 bits has at most 64
+  pub digits-few : (n : ℕ) → n < 2 ^ 64 → length (numeral base n) ≤ 64
+  digits-few n h = digits-most 63 n (lt-of-lt-of-le h (pow-le-pow-left {n = 2} {m = base} (b .two) 64))
 
   -- no leading zero but 0 itself
   digits-first : (n : ℕ) → 1 ≤ n → getD (numeral base n) 0 0 ≡ nought → ⊥

@@ -1,4 +1,5 @@
 // How text goes into a lent buffer: each function puts its text at a place and hands back the place after it.
+ghost use mathlib.Core.Path.{_≡_};
 ghost use Prim.Native.Nat.{_+_, _≤_, _<_};
 ghost use mathlib.Core.List.{[], _∷_};
 ghost use lib.ListN.{length};
@@ -55,4 +56,33 @@ pub fn bits(out: &mut [u8], at: usize, n: u64) -> usize
     ensures { λ r. ⌜ Put (now (out .entry)) (now (out .exit)) at r (bits n) ⌝ }
 {
     number_in(out, at, n, 2)
+}
+
+// How many digits a number has in a base from 2 to 10.
+fn width_in(n: u64, base: u8) -> usize
+    requires { ⌜ Base base ⌝ }
+    ensures { λ r. ⌜ (r ≡ length (numeral base n)) × (r ≤ 64) ⌝ }
+{
+    let times = base as u64;
+    let mut rest = n;
+    let mut width = 1;
+    while times <= rest {
+        rest /= times;
+        width += 1;
+    }
+    width
+}
+
+// How many bytes a number takes in decimal.
+pub fn width(n: u64) -> usize
+    ensures { λ r. ⌜ (r ≡ length (digits n)) × (r ≤ 64) ⌝ }
+{
+    width_in(n, 10)
+}
+
+// And in binary.
+pub fn width_in_bits(n: u64) -> usize
+    ensures { λ r. ⌜ (r ≡ length (bits n)) × (r ≤ 64) ⌝ }
+{
+    width_in(n, 2)
 }

@@ -1,6 +1,7 @@
 -- The laws that every crate above needs.
 pub mod Written
 pub mod Names
+pub mod Writing
 pub mod Read
 pub mod Live
 pub mod Bytes
@@ -8,3 +9,5 @@ pub mod Plain
 pub mod Texts
 pub mod Judging
 pub mod Examples
+pub mod Lengths
+pub mod Cursors

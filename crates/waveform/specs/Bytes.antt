@@ -39,10 +39,14 @@ headLines =
 abbrev pub valueLine : ℕ → ℕ → List ℕ
 valueLine wire n = bee ∷ (bits n ++ (space ∷ wire ∷ []))
 
+-- a mark
+abbrev pub markLine : ℕ → List ℕ
+markLine t = hash ∷ digits t
+
 -- HOW EACH LINE IS WRITTEN
 abbrev pub written : Token → List ℕ
 written (token.Head k) = getD headLines k []
-written (token.Mark t) = hash ∷ digits t
+written (token.Mark t) = markLine t
 written (token.Job n) = valueLine bang n
 written (token.Feed n) = valueLine quote n
 written token.Other = []

@@ -5,6 +5,7 @@ use mathlib.Core.List.{List, [], _∷_, _++_, map}
 use Prim.Native.Nat.{ℕ, suc, _+_}
 use Rattle.answers.specs.declared.Who.{Who}
 use Rattle.text.specs.Fields.{newline, linesOf}
+use Rattle.waveform.specs.declared.Token.{Token}
 use Rattle.waveform.specs.declared.State.{State}
 use Rattle.waveform.specs.declared.State.the-variants.{Heading, Opened, Jobbed, Going, Marked, Halfway, Dead}
 use Rattle.waveform.specs.declared.Outcome.{Outcome}
@@ -12,6 +13,10 @@ use Rattle.waveform.specs.declared.Outcome.the-variants.{Wrong, Well}
 use Rattle.waveform.specs.Runs.{told, Run}
 use Rattle.waveform.specs.Reading.{next, done}
 use Rattle.waveform.specs.Bytes.{written, says}
+
+-- a line with its newline
+unfoldable pub asLine : Token → List ℕ
+asLine l = written l ++ (newline ∷ [])
 
 -- lines as a text
 unfoldable pub asText : List (List ℕ) → List ℕ

@@ -1,4 +1,4 @@
-// A run of steps as a waveform: what a line of such a text says, and how far a text has come.
+// A run of steps as a waveform: what a line of such a text says, how far a text has come, and how a run is written line by line.
 // It must not know the desk, nor who may run when.
 use feeds::Feed;
 use text::Found;
@@ -10,6 +10,9 @@ ghost use Rattle.waveform.specs.Reading.{alone, ran, headed, opens, jobb
 ghost use Rattle.waveform.specs.Reading.{afterHeading, afterOpened, afterJobbed, afterGoing, afterMarked, afterHalfway, next, done};
 ghost use Rattle.waveform.specs.Texts.{isDead, endIn, startBy, endsOne, judged};
 ghost use Prim.Native.Nat.{_≤_};
+
+pub mod cursor;
+pub mod put;
 
 // What a line says: one of those in front, the instant of a mark, the value of the wire for jobs or of the one for feeds.
 pub enum Token {
