@@ -40,9 +40,11 @@ oneLess d =
     (cond (d .mark) (record { heads = d .heads; mark = false; job = d .job; feed = d .feed })
     (cond (d .job) (record { heads = d .heads; mark = false; job = false; feed = d .feed }) (record { heads = d .heads; mark = false; job = false; feed = false })))
 
+-- the same run with other lines due
 abbrev pub owing : Due → Cursor → Cursor
 owing d c = record { ran = c .ran; due = d; since = c .since; clock = c .clock; number = c .number; position = c .position }
 
+-- after the first line that is due is written
 abbrev pub wrote : Cursor → Cursor
 wrote c = owing (oneLess (c .due)) c
 
@@ -57,6 +59,7 @@ toldBy d ran j f =
     (cond j (record { heads = d .heads; mark = true; job = true; feed = f }) (record { heads = d .heads; mark = f; job = false; feed = f }))
     (record { heads = d .heads; mark = false; job = true; feed = true })
 
+-- whether a value is due: the tick went to another, or is the first
 unfoldable pub anyValue : Due → Bool
 anyValue d = d .job || d .feed
 
@@ -64,10 +67,11 @@ anyValue d = d .job || d .feed
 unfoldable pub sinceBy : Cursor → Due → ℕ
 sinceBy c d = cond (anyValue d) (c .clock) (c .since)
 
--- after a step that went to v
+-- what is due after a step that went to v
 abbrev pub dueAfter : Cursor → Who → Due
 dueAfter c v = toldBy (c .due) (c .ran) (not (eqb (jobWire v) (c .number))) (not (eqb (feedWire v) (c .position)))
 
+-- the run after that step
 abbrev pub stepped : Cursor → Who → Cursor
 stepped c v = record {
   ran = true;
