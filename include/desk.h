@@ -19,7 +19,7 @@ extern "C" {
 #endif
 
 /* One more with every change of a struct, a call or a number below, or of what makes a state one in order. */
-#define DESK_VERSION 6
+#define DESK_VERSION 7
 
 /* An instant is a reading of the clock, a whole number of ticks; this is the last one, 2 to the 40th. */
 #define DESK_LAST_INSTANT UINT64_C(1099511627776)
@@ -44,7 +44,8 @@ enum {
     DESK_NUMBERS_A_JOB = 4,       /* in the buffer of a list: number, owed, deadline, figure */
     DESK_BYTES_OF_FRONT = 84,     /* of a mesh file: its header of 80 and its triangle count */
     DESK_BYTES_A_JOB_LABEL = 12,  /* the job's number, big-endian in 4, and its label in 8 */
-    DESK_BYTES_A_FEED_LABEL = 8
+    DESK_BYTES_A_FEED_LABEL = 8,
+    DESK_BYTES_A_LINE = 36        /* of a waveform, the longest with its newline: a buffer of so many always gets on */
 };
 
 /* What an answer's `refusal` says. */
@@ -61,14 +62,15 @@ enum {
     DESK_ROUND_TOO_LONG = 9,      /* round above 40,320 */
     DESK_TOO_MUCH_LOAD = 10,      /* in some stretch of ticks the feeds alone, released together, charges and all, want more
                                    * than it has */
-    DESK_SHORT_BUFFER = 11,       /* buffer shorter than four numbers a live job */
+    DESK_SHORT_BUFFER = 11,       /* buffer shorter than four numbers a live job, or than the next line of a waveform */
     DESK_NOT_WHOLE_FEEDS = 12,    /* feed list length not a multiple of 4 */
-    DESK_NOT_IN_ORDER = 13,       /* state not in order */
+    DESK_NOT_IN_ORDER = 13,       /* state, cursor or reading not in order */
     DESK_SHORT_FRONT = 15,        /* fewer than 84 bytes lent of a mesh file */
     DESK_WRONG_LENGTH = 16,       /* a mesh file's length is not 84 and 50 for each of its triangles */
     DESK_NO_TRIANGLES = 17,       /* a mesh without triangles */
     DESK_CHARGE_TOO_HIGH = 18,    /* a charge above 16 */
-    DESK_NO_SHARE = 19            /* a share with p or q zero, p above q or q above 1,000; no share to ask by */
+    DESK_NO_SHARE = 19,           /* a share with p or q zero, p above q or q above 1,000; no share to ask by */
+    DESK_NOT_A_WAVEFORM = 20      /* a text that is no waveform of a run; the call tells the line */
 };
 
 /* Whom a tick went to. */
@@ -175,6 +177,87 @@ typedef struct DeskLabel {
     size_t length;
 } DeskLabel;
 
+/* A run of steps that is being written as a waveform: a run begins at an instant, goes on by the steps that the writing
+ * takes itself, and is closed. `clock` is the desk's, `number` and `position` are the values of the two wires, and `since`
+ * is the instant of the mark that is due or was written last: since then the same one runs. `heads` is how many of the six
+ * lines in front are written. The others are flags, 0 for no and anything else for yes (a call hands back 0 or 1): whether
+ * a step was taken, and which of a mark, the job's value and the feed's are due. All zero is the empty cursor, that of a
+ * refused begin and of a run that is closed.
+ *
+ * It is in order at an instant that is its `clock` if `heads` is at most 6, and
+ * - where no step was taken: `since` is the clock, both wires are 0, no value is due, and the mark is while `heads` is
+ *   below 6;
+ * - where one was: `heads` is 6, `since` lies before the clock, not both wires are above 0, `position` is at most 16, the
+ *   mark is due only with a value, and anything only if `since` is the instant before the clock. */
+typedef struct DeskCursor {
+    uint64_t since;
+    uint64_t clock;
+    uint32_t number;
+    uint32_t position;
+    uint32_t ran;
+    uint32_t heads;
+    uint32_t mark;
+    uint32_t job;
+    uint32_t feed;
+} DeskCursor;
+
+/* The cursor of a run that begins, the empty one where that is refused. */
+typedef struct DeskBegun {
+    DeskCursor cursor;
+    uint32_t refusal;
+} DeskBegun;
+
+/* State and cursor after so many `steps`, and how many `bytes` were written into the front of the buffer. Refused: both as
+ * they were given, no steps and no bytes. */
+typedef struct DeskWaved {
+    Desk desk;
+    DeskCursor cursor;
+    uint32_t refusal;
+    uint32_t steps;
+    size_t bytes;
+} DeskWaved;
+
+/* The cursor after so many `bytes`, the empty one once all is written. Refused: as it was given, and no bytes. */
+typedef struct DeskClosed {
+    DeskCursor cursor;
+    uint32_t refusal;
+    size_t bytes;
+} DeskClosed;
+
+/* What a text tells of a run: its first and its last instant, and how many stretches it has. For 20 `line` is the first
+ * line, counted from 1, that no waveform has there, or one past the last where text is missing; all else is 0. */
+typedef struct DeskRead {
+    uint32_t refusal;
+    size_t line;
+    uint64_t start;
+    uint64_t end;
+    size_t stretches;
+} DeskRead;
+
+/* How far a text is read, stretch by stretch: `place` bytes, which are `lines` whole lines, up to the mark `at`, where the
+ * wires are still at `job` and `feed`. All zero stands in front of the text, and so does any with `place` 0. It is in order
+ * for a text if `lines` is at most `place` and `place` at most the text's length. */
+typedef struct DeskReading {
+    size_t place;
+    size_t lines;
+    uint64_t at;
+    uint32_t job;
+    uint32_t feed;
+} DeskReading;
+
+/* The ticks from the instant `from` up to `to` all went to one (`kind` and `number` as of a step), and the reading stands
+ * behind them. Where the text ends well there are none: `from` and `to` are its last instant, kind and number 0. Refused:
+ * the reading as it was given, `line` for 20 as in reading the whole text, all else 0. */
+typedef struct DeskStretch {
+    DeskReading reading;
+    uint32_t refusal;
+    size_t line;
+    uint64_t from;
+    uint64_t to;
+    uint32_t kind;
+    uint32_t number;
+} DeskStretch;
+
 /* The layout, on every processor: the library and whoever calls it have to mean the same bytes. */
 #ifdef __cplusplus
 #define DESK_HOLDS static_assert
@@ -235,6 +318,49 @@ DESK_SIZE(DeskLabel, 24);
 DESK_PLACE(DeskLabel, list, 0);
 DESK_PLACE(DeskLabel, from, 8);
 DESK_PLACE(DeskLabel, length, 16);
+DESK_SIZE(DeskCursor, 48);
+DESK_PLACE(DeskCursor, since, 0);
+DESK_PLACE(DeskCursor, clock, 8);
+DESK_PLACE(DeskCursor, number, 16);
+DESK_PLACE(DeskCursor, position, 20);
+DESK_PLACE(DeskCursor, ran, 24);
+DESK_PLACE(DeskCursor, heads, 28);
+DESK_PLACE(DeskCursor, mark, 32);
+DESK_PLACE(DeskCursor, job, 36);
+DESK_PLACE(DeskCursor, feed, 40);
+DESK_SIZE(DeskBegun, 56);
+DESK_PLACE(DeskBegun, cursor, 0);
+DESK_PLACE(DeskBegun, refusal, 48);
+DESK_SIZE(DeskWaved, 2800);
+DESK_PLACE(DeskWaved, desk, 0);
+DESK_PLACE(DeskWaved, cursor, 2736);
+DESK_PLACE(DeskWaved, refusal, 2784);
+DESK_PLACE(DeskWaved, steps, 2788);
+DESK_PLACE(DeskWaved, bytes, 2792);
+DESK_SIZE(DeskClosed, 64);
+DESK_PLACE(DeskClosed, cursor, 0);
+DESK_PLACE(DeskClosed, refusal, 48);
+DESK_PLACE(DeskClosed, bytes, 56);
+DESK_SIZE(DeskRead, 40);
+DESK_PLACE(DeskRead, refusal, 0);
+DESK_PLACE(DeskRead, line, 8);
+DESK_PLACE(DeskRead, start, 16);
+DESK_PLACE(DeskRead, end, 24);
+DESK_PLACE(DeskRead, stretches, 32);
+DESK_SIZE(DeskReading, 32);
+DESK_PLACE(DeskReading, place, 0);
+DESK_PLACE(DeskReading, lines, 8);
+DESK_PLACE(DeskReading, at, 16);
+DESK_PLACE(DeskReading, job, 24);
+DESK_PLACE(DeskReading, feed, 28);
+DESK_SIZE(DeskStretch, 72);
+DESK_PLACE(DeskStretch, reading, 0);
+DESK_PLACE(DeskStretch, refusal, 32);
+DESK_PLACE(DeskStretch, line, 40);
+DESK_PLACE(DeskStretch, from, 48);
+DESK_PLACE(DeskStretch, to, 56);
+DESK_PLACE(DeskStretch, kind, 64);
+DESK_PLACE(DeskStretch, number, 68);
 
 #undef DESK_PLACE
 #undef DESK_SIZE
@@ -285,6 +411,29 @@ DeskListed desk_list(Desk desk, uint64_t *buffer, size_t length);
 /* Finds the label of the one that the next step would name, nobody at the last instant or out of order: the label in the
  * first whole record of its number, or that at its position. Lengths are in bytes. No refusals. */
 DeskLabel desk_label(Desk desk, const uint8_t *jobs, size_t jobs_length, const uint8_t *feeds, size_t feeds_length);
+
+/* A run of steps as a waveform, the Value Change Dump of docs/WAVEFORM.md: who got each tick, for a waveform viewer. The run
+ * begins at the desk's clock, with the lines in front and the first mark due; nothing is changed. 13. */
+DeskBegun desk_wave_begin(Desk desk);
+
+/* Goes on by at most `steps` steps, each as `desk_step` takes it: a line that is due is written if it fits, and with none
+ * due a step is taken, which may make lines due. It stops at a line that does not fit, after so many steps, or quietly at a
+ * step that would be refused. Whole lines go into the front of the buffer; the rest of it is untouched. Any calls but
+ * `desk_step` may come in between. 11 is for a first line that does not fit: the steps before it are not taken then. 13 (the
+ * desk, or a cursor not in order at its clock), 11. */
+DeskWaved desk_wave(Desk desk, DeskCursor cursor, uint32_t steps, uint8_t *buffer, size_t length);
+
+/* Closes the run: what is due, then the last mark, none where no step was taken. Where not all of it fits, the cursor comes
+ * back with what is left: to be closed again, until nothing is written. The empty cursor has nothing left. 13 (any other
+ * that is not in order at its own clock, or with that past the last instant), 11 (as above). */
+DeskClosed desk_wave_close(DeskCursor cursor, uint8_t *buffer, size_t length);
+
+/* Judges a text of any bytes: it is the waveform of a run, whether or not a desk could have run so, or no run's. 20. */
+DeskRead desk_wave_read(const uint8_t *text, size_t length);
+
+/* Reads on by one stretch, from the all-zero reading until `from` is `to`. What comes behind the stretch is not looked at.
+ * 13 (the reading), 20. */
+DeskStretch desk_wave_stretch(const uint8_t *text, size_t length, DeskReading reading);
 
 #ifdef __cplusplus
 }

@@ -6,7 +6,7 @@
 // A program uses what it needs.
 #![allow(dead_code)]
 
-pub const VERSION: u32 = 6;
+pub const VERSION: u32 = 7;
 
 pub const LAST_INSTANT: u64 = 1 << 40;
 pub const MOST_JOBS: usize = 64;
@@ -23,6 +23,7 @@ pub const NUMBERS_A_JOB: usize = 4;
 pub const BYTES_OF_FRONT: usize = 84;
 pub const BYTES_A_JOB_LABEL: usize = 12;
 pub const BYTES_A_FEED_LABEL: usize = 8;
+pub const BYTES_A_LINE: usize = 36;
 
 pub const YES: u32 = 0;
 pub const NUMBER_ZERO: u32 = 1;
@@ -43,6 +44,7 @@ pub const WRONG_LENGTH: u32 = 16;
 pub const NO_TRIANGLES: u32 = 17;
 pub const CHARGE_TOO_HIGH: u32 = 18;
 pub const NO_SHARE: u32 = 19;
+pub const NOT_A_WAVEFORM: u32 = 20;
 
 pub const IDLE: u32 = 0;
 pub const JOB: u32 = 1;
@@ -154,6 +156,77 @@ pub struct Label {
     pub length: usize,
 }
 
+#[derive(Clone, Copy, Debug, Default, PartialEq, Eq)]
+#[repr(C)]
+pub struct Cursor {
+    pub since: u64,
+    pub clock: u64,
+    pub number: u32,
+    pub position: u32,
+    pub ran: u32,
+    pub heads: u32,
+    pub mark: u32,
+    pub job: u32,
+    pub feed: u32,
+}
+
+#[derive(Clone, Copy, Debug, Default, PartialEq, Eq)]
+#[repr(C)]
+pub struct Begun {
+    pub cursor: Cursor,
+    pub refusal: u32,
+}
+
+#[derive(Clone, Copy, Debug, Default, PartialEq, Eq)]
+#[repr(C)]
+pub struct Waved {
+    pub desk: Desk,
+    pub cursor: Cursor,
+    pub refusal: u32,
+    pub steps: u32,
+    pub bytes: usize,
+}
+
+#[derive(Clone, Copy, Debug, Default, PartialEq, Eq)]
+#[repr(C)]
+pub struct Closed {
+    pub cursor: Cursor,
+    pub refusal: u32,
+    pub bytes: usize,
+}
+
+#[derive(Clone, Copy, Debug, Default, PartialEq, Eq)]
+#[repr(C)]
+pub struct Read {
+    pub refusal: u32,
+    pub line: usize,
+    pub start: u64,
+    pub end: u64,
+    pub stretches: usize,
+}
+
+#[derive(Clone, Copy, Debug, Default, PartialEq, Eq)]
+#[repr(C)]
+pub struct Reading {
+    pub place: usize,
+    pub lines: usize,
+    pub at: u64,
+    pub job: u32,
+    pub feed: u32,
+}
+
+#[derive(Clone, Copy, Debug, Default, PartialEq, Eq)]
+#[repr(C)]
+pub struct Stretch {
+    pub reading: Reading,
+    pub refusal: u32,
+    pub line: usize,
+    pub from: u64,
+    pub to: u64,
+    pub kind: u32,
+    pub number: u32,
+}
+
 // A call to a line, as `tests/layout` reads them.
 #[rustfmt::skip]
 extern "C" {
@@ -168,10 +241,15 @@ extern "C" {
     fn desk_rest(desk: Desk, position: u32) -> Answer;
     fn desk_list(desk: Desk, buffer: *mut u64, length: usize) -> Listed;
     fn desk_label(desk: Desk, jobs: *const u8, jobs_length: usize, feeds: *const u8, feeds_length: usize) -> Label;
+    fn desk_wave_begin(desk: Desk) -> Begun;
+    fn desk_wave(desk: Desk, cursor: Cursor, steps: u32, buffer: *mut u8, length: usize) -> Waved;
+    fn desk_wave_close(cursor: Cursor, buffer: *mut u8, length: usize) -> Closed;
+    fn desk_wave_read(text: *const u8, length: usize) -> Read;
+    fn desk_wave_stretch(text: *const u8, length: usize, reading: Reading) -> Stretch;
 }
 
-// Why each call below is safe: the library takes any state and any numbers, each place handed over is that of a slice of
-// the length handed over, and the library keeps none of them.
+// Why each call below is safe: the library takes any state, cursor and reading and any numbers, each place handed over is
+// that of a slice of the length handed over, and the library keeps none of them.
 impl Desk {
     pub fn open(list: &[u32], start: u64, charge: u32) -> Answer {
         unsafe { desk_open(list.as_ptr(), list.len(), start, charge) }
@@ -227,5 +305,29 @@ impl Desk {
             feeds
         };
         &list[place.from..place.from + place.length]
+    }
+
+    pub fn wave_begin(self) -> Begun {
+        unsafe { desk_wave_begin(self) }
+    }
+
+    pub fn wave(self, cursor: Cursor, steps: u32, buffer: &mut [u8]) -> Waved {
+        unsafe { desk_wave(self, cursor, steps, buffer.as_mut_ptr(), buffer.len()) }
+    }
+}
+
+impl Cursor {
+    pub fn wave_close(self, buffer: &mut [u8]) -> Closed {
+        unsafe { desk_wave_close(self, buffer.as_mut_ptr(), buffer.len()) }
+    }
+}
+
+pub fn wave_read(text: &[u8]) -> Read {
+    unsafe { desk_wave_read(text.as_ptr(), text.len()) }
+}
+
+impl Reading {
+    pub fn wave_stretch(self, text: &[u8]) -> Stretch {
+        unsafe { desk_wave_stretch(text.as_ptr(), text.len(), self) }
     }
 }
