@@ -105,12 +105,70 @@ static void labelling(Desk desk) {
     free(feeds);
 }
 
+static void beginning(Desk desk) {
+    DeskBegun answer = desk_wave_begin(desk);
+    put(&answer, sizeof answer);
+}
+
+static void waving(Desk desk) {
+    DeskCursor cursor;
+    get(&cursor, sizeof cursor);
+    uint32_t steps = get_number();
+    size_t size;
+    uint8_t *buffer = get_list(&size);
+    DeskWaved answer = desk_wave(desk, cursor, steps, buffer, size);
+    put(&answer, sizeof answer);
+    put(buffer, size);
+    free(buffer);
+}
+
+static void closing(void) {
+    DeskCursor cursor;
+    get(&cursor, sizeof cursor);
+    size_t size;
+    uint8_t *buffer = get_list(&size);
+    DeskClosed answer = desk_wave_close(cursor, buffer, size);
+    put(&answer, sizeof answer);
+    put(buffer, size);
+    free(buffer);
+}
+
+static void reading(void) {
+    size_t size;
+    uint8_t *text = get_list(&size);
+    DeskRead answer = desk_wave_read(text, size);
+    put(&answer, sizeof answer);
+    free(text);
+}
+
+static void reading_on(void) {
+    size_t size;
+    uint8_t *text = get_list(&size);
+    DeskReading reading;
+    get(&reading, sizeof reading);
+    DeskStretch answer = desk_wave_stretch(text, size, reading);
+    put(&answer, sizeof answer);
+    free(text);
+}
+
+/* Whether a state comes with the call. */
+static int is_of_a_desk(uint32_t call) {
+    switch (call) {
+    case CALL_OPEN:
+    case CALL_OPEN_SHARED:
+    case CALL_WAVE_CLOSE:
+    case CALL_WAVE_READ:
+    case CALL_WAVE_STRETCH: return 0;
+    default: return 1;
+    }
+}
+
 int main(void) {
     for (;;) {
         uint32_t call = get_number();
         Desk desk;
         DeskAnswer answer;
-        if (call != CALL_OPEN && call != CALL_OPEN_SHARED)
+        if (is_of_a_desk(call))
             get(&desk, sizeof desk);
         switch (call) {
         case CALL_OPEN: opening(); break;
@@ -124,6 +182,11 @@ int main(void) {
         case CALL_WHY: telling_why(desk); break;
         case CALL_OPEN_SHARED: opening_with_share(); break;
         case CALL_ASK_UNDATED: asking_undated(desk); break;
+        case CALL_WAVE_BEGIN: beginning(desk); break;
+        case CALL_WAVE: waving(desk); break;
+        case CALL_WAVE_CLOSE: closing(); break;
+        case CALL_WAVE_READ: reading(); break;
+        case CALL_WAVE_STRETCH: reading_on(); break;
         default: exit(1);
         }
         fflush(stdout);

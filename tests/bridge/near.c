@@ -168,3 +168,48 @@ DeskLabel desk_label(Desk desk, const uint8_t *jobs, size_t jobs_length, const u
     answer(&label, sizeof label);
     return label;
 }
+
+DeskBegun desk_wave_begin(Desk desk) {
+    DeskBegun begun;
+    call(CALL_WAVE_BEGIN, &desk);
+    answer(&begun, sizeof begun);
+    return begun;
+}
+
+DeskWaved desk_wave(Desk desk, DeskCursor cursor, uint32_t steps, uint8_t *buffer, size_t length) {
+    DeskWaved waved;
+    call(CALL_WAVE, &desk);
+    put(&cursor, sizeof cursor);
+    put(&steps, sizeof steps);
+    put_list(buffer, length);
+    answer(&waved, sizeof waved);
+    get(buffer, length);
+    return waved;
+}
+
+DeskClosed desk_wave_close(DeskCursor cursor, uint8_t *buffer, size_t length) {
+    DeskClosed closed;
+    call(CALL_WAVE_CLOSE, NULL);
+    put(&cursor, sizeof cursor);
+    put_list(buffer, length);
+    answer(&closed, sizeof closed);
+    get(buffer, length);
+    return closed;
+}
+
+DeskRead desk_wave_read(const uint8_t *text, size_t length) {
+    DeskRead read;
+    call(CALL_WAVE_READ, NULL);
+    put_list(text, length);
+    answer(&read, sizeof read);
+    return read;
+}
+
+DeskStretch desk_wave_stretch(const uint8_t *text, size_t length, DeskReading reading) {
+    DeskStretch stretch;
+    call(CALL_WAVE_STRETCH, NULL);
+    put_list(text, length);
+    put(&reading, sizeof reading);
+    answer(&stretch, sizeof stretch);
+    return stretch;
+}

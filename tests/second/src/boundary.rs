@@ -3,7 +3,10 @@
 #[path = "../../../include/desk.rs"]
 mod desk;
 
-pub use desk::{Answer, Desk, Feed, Job, Label, Listed, Reason, Share, Stepped};
+pub use desk::{
+    Answer, Begun, Closed, Cursor, Desk, Feed, Job, Label, Listed, Read, Reading, Reason, Share,
+    Stepped, Stretch, Waved,
+};
 
 /// The calls, whoever answers them.
 pub trait Library {
@@ -18,6 +21,11 @@ pub trait Library {
     fn rest(&self, desk: Desk, position: u32) -> Answer;
     fn list(&self, desk: Desk, buffer: &mut [u64]) -> Listed;
     fn label(&self, desk: Desk, jobs: &[u8], feeds: &[u8]) -> Label;
+    fn wave_begin(&self, desk: Desk) -> Begun;
+    fn wave(&self, desk: Desk, cursor: Cursor, steps: u32, buffer: &mut [u8]) -> Waved;
+    fn wave_close(&self, cursor: Cursor, buffer: &mut [u8]) -> Closed;
+    fn wave_read(&self, text: &[u8]) -> Read;
+    fn wave_stretch(&self, text: &[u8], reading: Reading) -> Stretch;
 }
 
 /// The real library, linked.
@@ -58,5 +66,20 @@ impl Library for Linked {
     }
     fn label(&self, desk: Desk, jobs: &[u8], feeds: &[u8]) -> Label {
         desk.place(jobs, feeds)
+    }
+    fn wave_begin(&self, desk: Desk) -> Begun {
+        desk.wave_begin()
+    }
+    fn wave(&self, desk: Desk, cursor: Cursor, steps: u32, buffer: &mut [u8]) -> Waved {
+        desk.wave(cursor, steps, buffer)
+    }
+    fn wave_close(&self, cursor: Cursor, buffer: &mut [u8]) -> Closed {
+        cursor.wave_close(buffer)
+    }
+    fn wave_read(&self, text: &[u8]) -> Read {
+        desk::wave_read(text)
+    }
+    fn wave_stretch(&self, text: &[u8], reading: Reading) -> Stretch {
+        reading.wave_stretch(text)
     }
 }

@@ -1,15 +1,25 @@
 //! Random calls, answered by this program and by a library, compared whole:
 //! the answer, every field of the state handed back, every word of the buffers.
 
-use crate::boundary::{Answer, Desk, Feed, Job, Label, Library, Listed, Reason, Share, Stepped};
+mod wave;
+
+use crate::boundary::{
+    Answer, Begun, Closed, Cursor, Desk, Feed, Job, Label, Library, Listed, Read, Reading, Reason,
+    Share, Stepped, Stretch, Waved,
+};
 use crate::invent::{self, Mesh, Opening};
-use crate::model::{self, CHARGE_MOST, DOES_NOT_FIT, JOB_LENGTH_MOST, LAST_INSTANT};
+use crate::model::{
+    self, BUFFER_TOO_SHORT, CHARGE_MOST, DOES_NOT_FIT, JOB_LENGTH_MOST, LAST_INSTANT,
+};
 use crate::own::{rank, read, write, Own};
 use crate::random::Random;
+use crate::texts::Text;
 use crate::workers;
 use std::cmp::Reverse;
 use std::collections::BTreeMap;
 use std::io;
+
+pub use wave::compare_waves;
 
 #[cfg(feature = "calls")]
 pub fn linked(seed: u64, count: u64) -> io::Result<bool> {
@@ -49,15 +59,56 @@ fn report(seed: u64, outcome: Result<Tally, String>) -> bool {
 #[derive(Clone, Debug)]
 enum Call {
     Open(Opening),
-    Ask { number: u32, work: u32, lead: u32 },
-    AskMesh { mesh: Mesh, number: u32, lead: u32 },
-    AskUndated { number: u32, work: u32 },
-    Why { number: u32, work: u32, lead: u32 },
+    Ask {
+        number: u32,
+        work: u32,
+        lead: u32,
+    },
+    AskMesh {
+        mesh: Mesh,
+        number: u32,
+        lead: u32,
+    },
+    AskUndated {
+        number: u32,
+        work: u32,
+    },
+    Why {
+        number: u32,
+        work: u32,
+        lead: u32,
+    },
     Step,
-    End { number: u32 },
-    Rest { position: u32 },
-    List { length: usize },
-    Label { jobs: Vec<u8>, feeds: Vec<u8> },
+    End {
+        number: u32,
+    },
+    Rest {
+        position: u32,
+    },
+    List {
+        length: usize,
+    },
+    Label {
+        jobs: Vec<u8>,
+        feeds: Vec<u8>,
+    },
+    WaveBegin,
+    Wave {
+        cursor: Cursor,
+        steps: u32,
+        length: usize,
+    },
+    WaveClose {
+        cursor: Cursor,
+        length: usize,
+    },
+    WaveRead {
+        text: Text,
+    },
+    WaveStretch {
+        text: Text,
+        reading: Reading,
+    },
 }
 
 #[derive(Clone, Debug, PartialEq, Eq)]
@@ -71,18 +122,33 @@ enum Said {
     Listed(Listed, Vec<u64>),
     /// With the lent lists, which must come back as they were.
     Label(Label, Vec<u8>, Vec<u8>),
+    Begun(Begun),
+    /// With the lent buffer and the guard bytes behind it.
+    Waved(Waved, Vec<u8>),
+    Closed(Closed, Vec<u8>),
+    /// With the lent text, which must come back as it was.
+    Read(Read, Vec<u8>),
+    Stretch(Stretch, Vec<u8>),
 }
 
 const FRONT_MOST: usize = 100;
 const LIST_MOST: usize = 4 * 64 + 5;
 const JOB_LABELS_MOST: usize = 12 * 70 + 11;
 const FEED_LABELS_MOST: usize = 8 * 17 + 7;
+const WAVE_MOST: usize = 2_000;
 const GUARD: usize = 16;
 
 /// What the buffer holds before a list call: no two words alike.
 fn unwritten() -> Vec<u64> {
     (1..=(LIST_MOST + GUARD) as u64)
         .map(|word| word.wrapping_mul(0xa076_1d64_78bd_642f))
+        .collect()
+}
+
+/// And before part of a waveform: no byte of it stands in any text.
+fn unwritten_bytes() -> Vec<u8> {
+    (0..WAVE_MOST + GUARD)
+        .map(|place| 0x80 | (place * 37) as u8)
         .collect()
 }
 
@@ -120,6 +186,37 @@ fn make(library: &dyn Library, desk: Desk, call: &Call) -> Said {
             let label = library.label(desk, &jobs, &feeds);
             Said::Label(label, jobs, feeds)
         }
+        Call::WaveBegin => Said::Begun(library.wave_begin(desk)),
+        call => make_of_a_wave(library, desk, call),
+    }
+}
+
+fn make_of_a_wave(library: &dyn Library, desk: Desk, call: &Call) -> Said {
+    let mut buffer = unwritten_bytes();
+    match call {
+        Call::Wave {
+            cursor,
+            steps,
+            length,
+        } => {
+            let waved = library.wave(desk, *cursor, *steps, &mut buffer[..*length]);
+            Said::Waved(waved, buffer)
+        }
+        Call::WaveClose { cursor, length } => {
+            let closed = library.wave_close(*cursor, &mut buffer[..*length]);
+            Said::Closed(closed, buffer)
+        }
+        Call::WaveRead { text } => {
+            let Text(text) = text.clone();
+            let read = library.wave_read(&text);
+            Said::Read(read, text)
+        }
+        Call::WaveStretch { text, reading } => {
+            let Text(text) = text.clone();
+            let stretch = library.wave_stretch(&text, *reading);
+            Said::Stretch(stretch, text)
+        }
+        _ => unreachable!("the other calls are made above"),
     }
 }
 
@@ -136,6 +233,11 @@ fn name(call: &Call) -> &'static str {
         Call::Rest { .. } => "rest",
         Call::List { .. } => "list",
         Call::Label { .. } => "label",
+        Call::WaveBegin => "begin",
+        Call::Wave { .. } => "wave",
+        Call::WaveClose { .. } => "close",
+        Call::WaveRead { .. } => "read",
+        Call::WaveStretch { .. } => "stretch",
     }
 }
 
@@ -149,6 +251,11 @@ fn refusal(said: &Said) -> u32 {
         Said::Listed(listed, _) => listed.refusal,
         Said::Label(Label { length: 0, .. }, ..) => 0,
         Said::Label(label, ..) => 100 + label.list,
+        Said::Begun(begun) => begun.refusal,
+        Said::Waved(waved, _) => waved.refusal,
+        Said::Closed(closed, _) => closed.refusal,
+        Said::Read(read, _) => read.refusal,
+        Said::Stretch(stretch, _) => stretch.refusal,
     }
 }
 
@@ -175,11 +282,13 @@ fn in_parts(library: &(dyn Library + Sync), seed: u64, count: u64) -> Result<Tal
     let tallies = workers::each(parts as usize, |part| {
         let part = part as u64;
         let calls = PART.min(count - part * PART);
-        compare(library, seed, part, calls)
-            .map_err(|difference| format!("part {part}\n{difference}"))
+        let in_part = |difference| format!("part {part}\n{difference}");
+        let others = compare(library, seed, part, calls).map_err(in_part)?;
+        let waves = compare_waves(library, seed, part, calls).map_err(in_part)?;
+        Ok::<_, String>([others, waves])
     })?;
     let mut all = Tally::new();
-    for (answer, times) in tallies.into_iter().flatten() {
+    for (answer, times) in tallies.into_iter().flatten().flatten() {
         *all.entry(answer).or_default() += times;
     }
     Ok(all)
@@ -229,9 +338,15 @@ impl<'a> Walk<'a> {
 
     /// One call to both; hands back the state to go on from.
     fn call(&mut self, desk: Desk, call: Call) -> Result<Desk, String> {
-        let said = self.said(desk, &call)?;
-        *self.tally.entry((name(&call), refusal(&said))).or_default() += 1;
+        let said = self.tallied(desk, &call)?;
         Ok(state_after(desk, &said))
+    }
+
+    /// What both say to a call that counts.
+    fn tallied(&mut self, desk: Desk, call: &Call) -> Result<Said, String> {
+        let said = self.said(desk, call)?;
+        *self.tally.entry((name(call), refusal(&said))).or_default() += 1;
+        Ok(said)
     }
 
     /// What both say to a call.
@@ -1334,7 +1449,8 @@ fn state_after(desk: Desk, said: &Said) -> Desk {
     match said {
         Said::Answer(answer) | Said::Mesh(answer, _) => answer.desk,
         Said::Stepped(stepped) => stepped.desk,
-        Said::Reason(_) | Said::Listed(..) | Said::Label(..) => desk,
+        Said::Waved(waved, _) => waved.desk,
+        _ => desk,
     }
 }
 
@@ -1407,5 +1523,27 @@ fn tell(said: &Said) -> String {
             format!("{listed:?}, words written {written:?}")
         }
         Said::Label(label, ..) => format!("{label:?}"),
+        Said::Begun(begun) => format!("{begun:?}"),
+        Said::Waved(waved, buffer) => format!(
+            "refusal {}, steps {}, bytes {}, {:?}\n{}\n{}",
+            waved.refusal,
+            waved.steps,
+            waved.bytes,
+            waved.cursor,
+            short(&waved.desk),
+            tell_bytes(buffer)
+        ),
+        Said::Closed(closed, buffer) => format!("{closed:?}\n{}", tell_bytes(buffer)),
+        Said::Read(read, _) => format!("{read:?}"),
+        Said::Stretch(stretch, _) => format!("{stretch:?}"),
     }
+}
+
+/// The bytes of a buffer up to the last that was written.
+fn tell_bytes(buffer: &[u8]) -> String {
+    let fresh = unwritten_bytes();
+    let mut pairs = buffer.iter().zip(&fresh);
+    let last = pairs.rposition(|(byte, before)| byte != before);
+    let written = &buffer[..last.map_or(0, |last| last + 1)];
+    format!("written: {:?}", Text(written.to_vec()))
 }

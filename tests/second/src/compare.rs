@@ -1,6 +1,6 @@
 //! Random scripts beside the real program, compared byte for byte.
 
-use crate::{fault, invent, script, workers};
+use crate::{fault, invent, judge, script, texts, wave, workers};
 use std::fs;
 use std::io::{self, Read, Write};
 use std::path::Path;
@@ -56,42 +56,94 @@ fn their_answer(program: &str, input: &[u8]) -> io::Result<Vec<u8>> {
     Ok(answer)
 }
 
+/// What a program is given, and what it should answer.
+struct Inputs {
+    fixed: Vec<Vec<u8>>,
+    random: fn(u64, u64) -> Vec<u8>,
+    own: fn(&[u8]) -> Vec<u8>,
+}
+
 /// Whether all scripts got the same answer, first the fixed ones.
 pub fn scripts(program: &str, seed: u64, count: u64) -> io::Result<bool> {
-    let fixed = invent::fixed();
-    let script = |item: usize| match fixed.get(item) {
-        Some(input) => (format!("fixed script {item}"), input.clone()),
-        None => {
-            let item = (item - fixed.len()) as u64;
-            (
-                format!("seed {seed}, script {item}"),
-                invent::script(seed, item),
-            )
-        }
+    let inputs = Inputs {
+        fixed: invent::fixed(),
+        random: invent::script,
+        own: own_answer,
     };
-    let all = fixed.len() + count as usize;
-    let compared = workers::each(all, |item| {
-        let (name, input) = script(item);
-        match compare(program, &name, &input) {
-            Ok(lines) => lines.ok_or(None),
-            Err(error) => Err(Some(error)),
+    inputs.beside(program, seed, count)
+}
+
+/// The same of the scripts' waveforms.
+pub fn waves(program: &str, seed: u64, count: u64) -> io::Result<bool> {
+    let inputs = Inputs {
+        fixed: invent::fixed(),
+        random: invent::script,
+        own: wave::of_script,
+    };
+    inputs.beside(program, seed, count)
+}
+
+/// And of texts that are waveforms, or nearly.
+pub fn dumps(program: &str, seed: u64, count: u64) -> io::Result<bool> {
+    let inputs = Inputs {
+        fixed: texts::fixed(),
+        random: texts::dump,
+        own: judge::told,
+    };
+    inputs.beside(program, seed, count)
+}
+
+impl Inputs {
+    /// The one of this place, the fixed ones first, and its name.
+    fn input(&self, seed: u64, place: usize) -> (String, Vec<u8>) {
+        match self.fixed.get(place) {
+            Some(input) => (format!("fixed script {place}"), input.clone()),
+            None => {
+                let item = (place - self.fixed.len()) as u64;
+                let name = format!("seed {seed}, script {item}");
+                (name, (self.random)(seed, item))
+            }
         }
-    });
+    }
+
+    fn beside(&self, program: &str, seed: u64, count: u64) -> io::Result<bool> {
+        let all = self.fixed.len() + count as usize;
+        let compared = workers::each(all, |place| {
+            let (name, input) = self.input(seed, place);
+            match compare(program, self.own, &name, &input) {
+                Ok(lines) => lines.ok_or(None),
+                Err(error) => Err(Some(error)),
+            }
+        });
+        report(self.fixed.len(), seed, count, compared)
+    }
+}
+
+fn report(
+    fixed: usize,
+    seed: u64,
+    count: u64,
+    compared: Result<Vec<usize>, Option<io::Error>>,
+) -> io::Result<bool> {
     let lines: usize = match compared {
         Ok(lines) => lines.iter().sum(),
         Err(None) => return Ok(false),
         Err(Some(error)) => return Err(error),
     };
     println!(
-        "{} fixed scripts and {count} of seed {seed} compared, {lines} lines of answers, no difference",
-        fixed.len()
+        "{fixed} fixed scripts and {count} of seed {seed} compared, {lines} lines of answers, no difference"
     );
     Ok(true)
 }
 
 /// The lines of the answer, if both give the same.
-fn compare(program: &str, name: &str, input: &[u8]) -> io::Result<Option<usize>> {
-    let ours = own_answer(input);
+fn compare(
+    program: &str,
+    own: fn(&[u8]) -> Vec<u8>,
+    name: &str,
+    input: &[u8],
+) -> io::Result<Option<usize>> {
+    let ours = own(input);
     let theirs = their_answer(program, input)?;
     if ours != theirs {
         show(name, input, &ours, &theirs);

@@ -41,6 +41,7 @@ pub const LENGTH_DISAGREES: Refusal = 16;
 pub const NO_TRIANGLES: Refusal = 17;
 pub const CHARGE_TOO_HIGH: Refusal = 18;
 pub const NO_SHARE: Refusal = 19;
+pub const NOT_A_WAVEFORM: Refusal = 20;
 
 #[derive(Clone, Copy, Debug, PartialEq, Eq)]
 pub struct Feed {

@@ -1,7 +1,12 @@
 //! The model behind the C boundary's shapes: what every call should answer.
 
-use crate::boundary::{Answer, Desk, Feed, Job, Label, Library, Listed, Reason, Share, Stepped};
-use crate::model::{self, Place, Refusal, Runner, NOT_IN_ORDER};
+use crate::boundary::{
+    Answer, Begun, Closed, Cursor, Desk, Feed, Job, Label, Library, Listed, Read, Reading, Reason,
+    Share, Stepped, Stretch, Waved,
+};
+use crate::judge::{self, Found};
+use crate::model::{self, Place, Refusal, Runner, NOT_A_WAVEFORM, NOT_IN_ORDER};
+use crate::parts;
 
 /// The state that these fixed tables hold; nothing if a count is above its limit, a
 /// live job isn't in its place or an unused place isn't all zero, which is not in order.
@@ -148,6 +153,83 @@ fn answer(before: Desk, after: Result<model::Desk, Refusal>) -> Answer {
     }
 }
 
+fn kind_and_number(runner: Runner) -> (u32, u32) {
+    match runner {
+        Runner::Idle => (0, 0),
+        Runner::Job(number) => (1, number),
+        Runner::Feed(position) => (2, position),
+    }
+}
+
+/// The state that these tables hold, if it is in order.
+fn in_order(desk: &Desk) -> Result<model::Desk, Refusal> {
+    state_of(desk).and_then(|state| match state.in_order() {
+        true => Ok(state),
+        false => Err(NOT_IN_ORDER),
+    })
+}
+
+/// What was written goes to the front; the rest of the buffer is untouched.
+pub fn waved(
+    desk: Desk,
+    cursor: Cursor,
+    gone: Result<parts::Gone, Refusal>,
+    buffer: &mut [u8],
+) -> Waved {
+    match gone {
+        Ok(gone) => {
+            buffer[..gone.bytes.len()].copy_from_slice(&gone.bytes);
+            Waved {
+                desk: write(&gone.desk),
+                cursor: parts::write(Some(&gone.run)),
+                refusal: 0,
+                steps: gone.steps,
+                bytes: gone.bytes.len(),
+            }
+        }
+        Err(refusal) => Waved {
+            desk,
+            cursor,
+            refusal,
+            ..Waved::default()
+        },
+    }
+}
+
+pub fn closed(
+    cursor: Cursor,
+    left: Result<(Option<parts::Run>, Vec<u8>), Refusal>,
+    buffer: &mut [u8],
+) -> Closed {
+    match left {
+        Ok((run, bytes)) => {
+            buffer[..bytes.len()].copy_from_slice(&bytes);
+            Closed {
+                cursor: parts::write(run.as_ref()),
+                refusal: 0,
+                bytes: bytes.len(),
+            }
+        }
+        Err(refusal) => Closed {
+            cursor,
+            refusal,
+            bytes: 0,
+        },
+    }
+}
+
+fn stretch_found(found: judge::Stretch, reading: Reading) -> Stretch {
+    let (kind, number) = kind_and_number(found.runner());
+    Stretch {
+        reading,
+        from: found.from,
+        to: found.to,
+        kind,
+        number,
+        ..Stretch::default()
+    }
+}
+
 /// This program's own answers.
 pub struct Own;
 
@@ -211,11 +293,7 @@ impl Library for Own {
     fn step(&self, desk: Desk) -> Stepped {
         match state_of(&desk).and_then(|state| state.step()) {
             Ok((state, ran)) => {
-                let (kind, number) = match ran.runner {
-                    Runner::Idle => (0, 0),
-                    Runner::Job(number) => (1, number),
-                    Runner::Feed(position) => (2, position),
-                };
+                let (kind, number) = kind_and_number(ran.runner);
                 Stepped {
                     desk: write(&state),
                     refusal: 0,
@@ -266,6 +344,71 @@ impl Library for Own {
                 from,
                 length: 8,
             },
+        }
+    }
+
+    fn wave_begin(&self, desk: Desk) -> Begun {
+        match in_order(&desk) {
+            Ok(state) => Begun {
+                cursor: parts::write(Some(&parts::Run::begin(state.clock))),
+                refusal: 0,
+            },
+            Err(refusal) => Begun {
+                cursor: Cursor::default(),
+                refusal,
+            },
+        }
+    }
+
+    fn wave(&self, desk: Desk, cursor: Cursor, steps: u32, buffer: &mut [u8]) -> Waved {
+        let gone = in_order(&desk).and_then(|state| {
+            let run = parts::read(&cursor, state.clock)?;
+            run.go_on(state, steps, buffer.len())
+        });
+        waved(desk, cursor, gone, buffer)
+    }
+
+    fn wave_close(&self, cursor: Cursor, buffer: &mut [u8]) -> Closed {
+        let left = parts::read_to_close(&cursor).and_then(|run| match run {
+            Some(run) => run.close(buffer.len()),
+            None => Ok((None, Vec::new())),
+        });
+        closed(cursor, left, buffer)
+    }
+
+    fn wave_read(&self, text: &[u8]) -> Read {
+        match judge::judge(text) {
+            Ok(run) => Read {
+                start: run.start,
+                end: run.end(),
+                stretches: run.stretches.len(),
+                ..Read::default()
+            },
+            Err(line) => Read {
+                refusal: NOT_A_WAVEFORM,
+                line,
+                ..Read::default()
+            },
+        }
+    }
+
+    fn wave_stretch(&self, text: &[u8], reading: Reading) -> Stretch {
+        let refused = |refusal, line| Stretch {
+            reading,
+            refusal,
+            line,
+            ..Stretch::default()
+        };
+        match judge::stretch(text, reading) {
+            Found::Stretch(found, reading) => stretch_found(found, reading),
+            Found::End(reading) => Stretch {
+                reading,
+                from: reading.at,
+                to: reading.at,
+                ..Stretch::default()
+            },
+            Found::Wrong(line) => refused(NOT_A_WAVEFORM, line),
+            Found::NotInOrder => refused(NOT_IN_ORDER, 0),
         }
     }
 }

@@ -1,6 +1,6 @@
 //! The rehearsal program: its grammar, and what it prints.
 
-use crate::model::{open, Desk, Refusal, Runner, LAST_INSTANT};
+use crate::model::{open, Desk, Instant, Refusal, Runner, LAST_INSTANT};
 use std::io::{self, Write};
 
 pub const INPUT_MOST: usize = 65_536;
@@ -89,6 +89,33 @@ pub fn rehearse(input: &[u8], out: &mut impl Write) -> io::Result<()> {
         }
     }
     Ok(())
+}
+
+/// Whom the ticks of a script went to, from the instant at which it opened: up to its end,
+/// or its bad line. Nothing where it never opened.
+pub fn ticks(input: &[u8]) -> Option<(Instant, Vec<Runner>)> {
+    let mut stage = beginning();
+    let mut start = None;
+    let mut names = Vec::new();
+    for line in input.split_inclusive(|&byte| byte == b'\n') {
+        let said = line.strip_suffix(b"\n").and_then(read_line);
+        let (before, line) = match said.and_then(|said| allowed(stage, said)) {
+            Some(next) => next,
+            None => break,
+        };
+        if let (Stage::Open(desk), Line::Run(ticks)) = (&before, line) {
+            let mut desk = desk.clone();
+            let left = LAST_INSTANT - desk.clock;
+            names.extend((0..left.min(ticks.into())).map(|_| desk.tick().runner));
+        }
+        stage = follow(before, line, &mut io::sink()).expect("writing to nowhere");
+        match &stage {
+            Stage::Open(desk) => start = start.or(Some(desk.clock)),
+            Stage::Stopped => break,
+            Stage::Gathering(_) => (),
+        }
+    }
+    start.map(|start| (start, names))
 }
 
 /// Feeds and one go before anything else, and not after; at most 17 feeds.

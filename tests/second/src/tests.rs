@@ -5,16 +5,39 @@
 //! changes is in `charge`, what deadlines before the next release change in
 //! `deadlines`, what the figure changes in `figure`, what the order of the table
 //! changes in `order` and what exports with no date change in `undated`, but random
-//! states here are under any charge, and with any deadlines.
+//! states here are under any charge, and with any deadlines. Waveforms are in `wave`.
+
+/// The calls of waveforms, for a library that is wrong elsewhere.
+macro_rules! right_waves {
+    () => {
+        fn wave_begin(&self, desk: State) -> Begun {
+            Own.wave_begin(desk)
+        }
+        fn wave(&self, desk: State, cursor: Cursor, steps: u32, buffer: &mut [u8]) -> Waved {
+            Own.wave(desk, cursor, steps, buffer)
+        }
+        fn wave_close(&self, cursor: Cursor, buffer: &mut [u8]) -> Closed {
+            Own.wave_close(cursor, buffer)
+        }
+        fn wave_read(&self, text: &[u8]) -> Read {
+            Own.wave_read(text)
+        }
+        fn wave_stretch(&self, text: &[u8], reading: Reading) -> Stretch {
+            Own.wave_stretch(text, reading)
+        }
+    };
+}
 
 mod charge;
 mod deadlines;
 mod figure;
 mod order;
 mod undated;
+mod wave;
 
 use crate::ahead;
 use crate::boundary::{self, Answer, Label, Library, Listed, Stepped};
+use crate::boundary::{Begun, Closed, Cursor, Read, Reading, Stretch, Waved};
 use crate::calls;
 use crate::invent::{flood, least_that_fits, most_that_fits, BENCH};
 use crate::mesh;
@@ -1352,6 +1375,7 @@ impl Library for Faulty {
         }
         label
     }
+    right_waves!();
 }
 
 /// The answer that is wrong by this fault, and the right one where it does not
@@ -1799,6 +1823,7 @@ impl Library for Watching {
         self.note_state(&desk);
         Own.label(desk, jobs, feeds)
     }
+    right_waves!();
 }
 
 /// A right library passes, and on the way every call gives every number it can.

@@ -443,6 +443,7 @@ impl Library for Mischarging {
     fn label(&self, desk: State, jobs: &[u8], feeds: &[u8]) -> Label {
         Own.label(desk, jobs, feeds)
     }
+    right_waves!();
 }
 
 /// The job that was just taken.

@@ -629,6 +629,7 @@ impl Library for Mistimed {
             _ => Own.label(desk, jobs, feeds),
         }
     }
+    right_waves!();
 }
 
 /// Line 10 as a library with this fault judges it.

@@ -803,6 +803,7 @@ impl Library for Misfiguring {
             _ => Own.label(desk, jobs, feeds),
         }
     }
+    right_waves!();
 }
 
 /// The figures of jobs that were there before go back to what they were, if this holds

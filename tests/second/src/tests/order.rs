@@ -834,6 +834,7 @@ impl Library for Misplacing {
             _ => Own.label(desk, jobs, feeds),
         }
     }
+    right_waves!();
 }
 
 /// Takes the job at one place and puts it at another, of those that are left.

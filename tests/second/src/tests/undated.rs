@@ -1155,6 +1155,7 @@ impl Library for Misdating {
             _ => Own.label(desk, jobs, feeds),
         }
     }
+    right_waves!();
 }
 
 /// The state as a call takes it that does not look at share and previous deadline.
