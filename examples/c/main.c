@@ -1,8 +1,10 @@
 /* A desk from C: opens with two feeds, asks and asks why, rests, steps and lists, asks with a mesh file, opens under a
- * charge, opens with layers that are due before the next, and opens with a share and asks with no date. */
+ * charge, opens with layers that are due before the next, opens with a share and asks with no date, and writes a run as a
+ * waveform and reads it back. */
 #include "desk.h"
 
 #include <stdio.h>
+#include <string.h>
 
 enum { TWO_FEEDS = 2 * DESK_NUMBERS_A_FEED };
 
@@ -81,6 +83,57 @@ static void labelled(Desk desk) {
     printf("next: \"%.*s\"\n", (int)label.length, (const char *)list + label.from);
 }
 
+/* A waveform as it grows. */
+typedef struct Text {
+    size_t length;
+    uint8_t bytes[1024];
+} Text;
+
+static void joined(Text *text, const uint8_t *part, size_t bytes) {
+    memcpy(text->bytes + text->length, part, bytes);
+    text->length += bytes;
+}
+
+/* In the smallest parts that always get on: each has one whole line or more, the last has none. */
+static Text waved(Desk desk, uint32_t steps) {
+    Text text = {0};
+    uint8_t part[DESK_BYTES_A_LINE];
+    DeskCursor cursor = desk_wave_begin(desk).cursor;
+    DeskWaved wave;
+    do {
+        wave = desk_wave(desk, cursor, steps, part, sizeof part);
+        joined(&text, part, wave.bytes);
+        desk = wave.desk;
+        cursor = wave.cursor;
+        steps -= wave.steps;
+    } while (wave.bytes > 0);
+    DeskClosed closed;
+    do {
+        closed = desk_wave_close(cursor, part, sizeof part);
+        joined(&text, part, closed.bytes);
+        cursor = closed.cursor;
+    } while (closed.bytes > 0);
+    return text;
+}
+
+static void read_back(const uint8_t *text, size_t length) {
+    static const char *const kinds[] = {"idle", "job", "feed"};
+    DeskRead read = desk_wave_read(text, length);
+    if (read.refusal != DESK_YES) {
+        printf("no waveform: %u, line %zu\n", read.refusal, read.line);
+        return;
+    }
+    printf("waveform from %llu to %llu, %zu stretches\n", (unsigned long long)read.start,
+           (unsigned long long)read.end, read.stretches);
+    DeskReading reading = {0};
+    for (size_t i = 0; i < read.stretches; i++) {
+        DeskStretch stretch = desk_wave_stretch(text, length, reading);
+        printf("ticks %llu to %llu: %s %u\n", (unsigned long long)stretch.from, (unsigned long long)stretch.to,
+               kinds[stretch.kind], stretch.number);
+        reading = stretch.reading;
+    }
+}
+
 int main(void) {
     Desk desk = opened(by_the_next, 0);
     desk = asked(desk, 1, 3, 6);
@@ -119,5 +172,9 @@ int main(void) {
     desk = asked_undated(shared.desk, 1, 3);
     desk = asked_undated(desk, 2, 2); /* its time begins where that of job 1 ends */
     listed(desk);
+    Text text = waved(asked(opened(by_the_next, 0), 1, 3, 6), 6);
+    fwrite(text.bytes, 1, text.length, stdout);
+    read_back(text.bytes, text.length);
+    read_back(text.bytes, text.length - 1); /* the newline of its last line is missing */
     return 0;
 }

@@ -3,7 +3,7 @@
 #[path = "../../include/desk.rs"]
 mod desk;
 
-use desk::{Answer, Desk, Reason};
+use desk::{Answer, Desk, Reading, Reason};
 
 /// Two printers: one wants 1 tick in 4, one 2 in 6, each layer by the time that the next one comes.
 const BY_THE_NEXT: [u32; 2 * desk::NUMBERS_A_FEED] = [4, 1, 0, 4, 6, 2, 0, 6];
@@ -75,6 +75,45 @@ fn labelled(desk: Desk) {
     println!("next: \"{}\"", String::from_utf8_lossy(label));
 }
 
+/// In the smallest parts that always get on: each has one whole line or more, the last has none.
+fn waved(mut desk: Desk, mut steps: u32) -> Vec<u8> {
+    let mut text = Vec::new();
+    let mut part = [0; desk::BYTES_A_LINE];
+    let mut cursor = desk.wave_begin().cursor;
+    loop {
+        let wave = desk.wave(cursor, steps, &mut part);
+        text.extend(&part[..wave.bytes]);
+        (desk, cursor, steps) = (wave.desk, wave.cursor, steps - wave.steps);
+        if wave.bytes == 0 {
+            break;
+        }
+    }
+    loop {
+        let closed = cursor.wave_close(&mut part);
+        text.extend(&part[..closed.bytes]);
+        cursor = closed.cursor;
+        if closed.bytes == 0 {
+            return text;
+        }
+    }
+}
+
+fn read_back(text: &[u8]) {
+    let read = desk::wave_read(text);
+    if read.refusal != desk::YES {
+        println!("no waveform: {}, line {}", read.refusal, read.line);
+        return;
+    }
+    println!("waveform from {} to {}, {} stretches", read.start, read.end, read.stretches);
+    let mut reading = Reading::default();
+    for _ in 0..read.stretches {
+        let stretch = reading.wave_stretch(text);
+        let kind = ["idle", "job", "feed"][stretch.kind as usize];
+        println!("ticks {} to {}: {kind} {}", stretch.from, stretch.to, stretch.number);
+        reading = stretch.reading;
+    }
+}
+
 fn main() {
     let mut desk = opened(&BY_THE_NEXT, 0);
     desk = asked(desk, 1, 3, 6);
@@ -114,4 +153,8 @@ fn main() {
     desk = asked_undated(shared.desk, 1, 3);
     desk = asked_undated(desk, 2, 2); // its time begins where that of job 1 ends
     listed(desk);
+    let text = waved(asked(opened(&BY_THE_NEXT, 0), 1, 3, 6), 6);
+    print!("{}", String::from_utf8_lossy(&text));
+    read_back(&text);
+    read_back(&text[..text.len() - 1]); // the newline of its last line is missing
 }
