@@ -1,5 +1,5 @@
 # shellcheck shell=bash
-# Sourced by what links the library or runs the rehearsal: both are for x86-64. There they are taken as they are. On
+# Sourced by what links the library or runs the programs: all are for x86-64. There they are taken as they are. On
 # another processor a C program is compiled for x86-64 and run by the kit's emulator, and other programs reach the library
 # over a pair of pipes (near.c, far.c).
 kit=$(dirname "$(dirname "$(rt doc)")")
@@ -47,10 +47,9 @@ build_link() {
     ar rcs "$link/libdesk_c.a" "$link/near.o"
 }
 
-# makes target/link/rehearse, the program as this machine runs it
-link_rehearse() {
-    mkdir -p "$link" && printf '#!/bin/sh\nexec %s\n' "$(command_of target/bin/rehearse)" >"$link/rehearse" &&
-        chmod +x "$link/rehearse"
+# makes target/link/NAME, the program target/bin/NAME as this machine runs it
+link_program() { # NAME
+    mkdir -p "$link" && printf '#!/bin/sh\nexec %s\n' "$(command_of "target/bin/$1")" >"$link/$1" && chmod +x "$link/$1"
 }
 
 # builds or tests the second program
