@@ -1524,19 +1524,26 @@ fn tell(said: &Said) -> String {
         }
         Said::Label(label, ..) => format!("{label:?}"),
         Said::Begun(begun) => format!("{begun:?}"),
-        Said::Waved(waved, buffer) => format!(
-            "refusal {}, steps {}, bytes {}, {:?}\n{}\n{}",
-            waved.refusal,
-            waved.steps,
-            waved.bytes,
-            waved.cursor,
-            short(&waved.desk),
-            tell_bytes(buffer)
-        ),
+        Said::Waved(waved, buffer) => tell_waved(waved, buffer),
         Said::Closed(closed, buffer) => format!("{closed:?}\n{}", tell_bytes(buffer)),
         Said::Read(read, _) => format!("{read:?}"),
         Said::Stretch(stretch, _) => format!("{stretch:?}"),
     }
+}
+
+fn tell_waved(waved: &Waved, buffer: &[u8]) -> String {
+    let Waved {
+        desk,
+        cursor,
+        refusal,
+        steps,
+        bytes,
+    } = waved;
+    format!(
+        "refusal {refusal}, steps {steps}, bytes {bytes}, {cursor:?}\n{}\n{}",
+        short(desk),
+        tell_bytes(buffer)
+    )
 }
 
 /// The bytes of a buffer up to the last that was written.

@@ -448,41 +448,48 @@ fn yes(random: &mut Random) -> u32 {
     random.pick(&[1, 1, 1, 2, 256, 1 << 31, u32::MAX])
 }
 
-/// In order at this instant: before the first step, with some of the lines in front written,
-/// or after one, with each of its lines due or none.
+/// In order at this instant: before the first step or after one.
 fn cursor_at(random: &mut Random, clock: u64) -> Cursor {
     let before = Cursor {
         since: clock,
         clock,
         ..Cursor::default()
     };
-    if clock == 0 || random.chance(35) {
-        let heads = random.pick(&[0, 1, 2, 3, 4, 5, 6, 6]);
-        let mark = match heads {
-            6 => random.pick(&[0, 1, 1]),
-            _ => 1,
-        };
-        let mark = mark * yes(random);
-        return Cursor {
-            heads,
-            mark,
-            ..before
-        };
+    match clock {
+        0 => before_a_step(random, before),
+        _ if random.chance(35) => before_a_step(random, before),
+        _ => after_a_step(random, before),
     }
-    let wave::Wires {
-        job: number,
-        feed: position,
-    } = texts::some_wires(random);
+}
+
+/// Some of the lines in front written, or all of them, or the mark too.
+fn before_a_step(random: &mut Random, before: Cursor) -> Cursor {
+    let heads = random.pick(&[0, 1, 2, 3, 4, 5, 6, 6]);
+    let mark = match heads {
+        6 => random.pick(&[0, 1, 1]),
+        _ => 1,
+    };
+    let mark = mark * yes(random);
+    Cursor {
+        heads,
+        mark,
+        ..before
+    }
+}
+
+/// Each of its lines due, or none.
+fn after_a_step(random: &mut Random, before: Cursor) -> Cursor {
+    let wires = texts::some_wires(random);
     let (job, feed) = random.pick(&[(0, 0), (0, 0), (0, 1), (1, 0), (1, 1)]);
     let mark = (job | feed) & random.below(2) as u32;
     let ticks = match job | feed {
-        0 => random.between(1, 9).min(clock),
+        0 => random.between(1, 9).min(before.clock),
         _ => 1,
     };
     Cursor {
-        since: clock - ticks,
-        number,
-        position,
+        since: before.clock - ticks,
+        number: wires.job,
+        position: wires.feed,
         ran: yes(random),
         heads: 6,
         mark: mark * yes(random),

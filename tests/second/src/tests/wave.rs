@@ -613,55 +613,67 @@ fn the_line_that_is_wrong() {
 /// theirs begins with that many lines.
 #[test]
 fn the_wrong_line_by_trying_every_run() {
-    let named = [
-        Runner::Idle,
-        Runner::Job(1),
-        Runner::Job(2),
-        Runner::Feed(1),
-    ];
     let (first, last) = (3, 7);
-    let mut beginnings = BTreeSet::new();
+    let wholes = all_texts(first, last);
+    let ends = |whole: &[u8]| -> Vec<usize> {
+        let places = 0..whole.len();
+        places.filter(|place| whole[*place] == b'\n').collect()
+    };
+    let all_beginnings = |whole: &Vec<u8>| -> Vec<Vec<u8>> {
+        let ends = ends(whole).into_iter();
+        ends.map(|end| whole[..=end].to_vec()).collect()
+    };
+    let beginnings: BTreeSet<Vec<u8>> = wholes.iter().flat_map(all_beginnings).collect();
+    let random = &mut Random::of(4, 0);
+    for _ in 0..20_000 {
+        let lines = some_lines(random, first, last - 1);
+        let begins = |end: &usize| beginnings.contains(&lines[..=*end]);
+        let good = ends(&lines).into_iter().take_while(begins).count();
+        let line = match wholes.contains(&lines) {
+            true => 0,
+            false => good + 1,
+        };
+        let told = String::from_utf8_lossy(&lines);
+        assert_eq!(wrong_line(&lines), line, "{told}");
+    }
+}
+
+/// Of every run between these instants, of a few who may be named.
+fn all_texts(first: Instant, last: Instant) -> BTreeSet<Vec<u8>> {
+    let (one, two) = (Runner::Job(1), Runner::Job(2));
+    let named = [Runner::Idle, one, two, Runner::Feed(1)];
+    let longer = |names: &Vec<Runner>| named.map(|name| [&names[..], &[name]].concat());
     let mut wholes = BTreeSet::new();
     for start in first..=last {
         let mut runs = vec![Vec::new()];
         for _ in start..=last {
-            for names in &runs {
-                let whole = text(start, names);
-                let ends = (0..whole.len()).filter(|place| whole[*place] == b'\n');
-                beginnings.extend(ends.map(|end| whole[..=end].to_vec()));
-                wholes.insert(whole);
-            }
-            let longer = |names: &Vec<Runner>| named.map(|name| [&names[..], &[name]].concat());
+            wholes.extend(runs.iter().map(|names| text(start, names)));
             runs = runs.iter().flat_map(longer).collect();
         }
     }
-    let random = &mut Random::of(4, 0);
-    let alphabet = [
+    wholes
+}
+
+/// Lines of the same few in any order, now and then one that is written otherwise; the marks
+/// lie before the last instant.
+fn some_lines(random: &mut Random, first: Instant, last: Instant) -> Vec<u8> {
+    let values = [
         "b0 !", "b1 !", "b10 !", "b0 \"", "b1 \"", "b01 !", "b1!", "#",
     ];
-    for _ in 0..20_000 {
-        let mut lines = heads() + "#3\n";
-        let mut at = 3;
-        for _ in 0..random.below(9) {
-            let among = random.pick(&[5, 5, 5, 8]);
-            let line = random.pick(&alphabet[..among]);
-            let mark = random.chance(35) && at < last - 2;
-            at += u64::from(mark) * random.pick(&[1, 1, 1, 2, 0]);
-            lines += &if mark {
-                format!("#{at}\n")
-            } else {
-                format!("{line}\n")
-            };
+    let mut lines = format!("{}#{first}\n", heads());
+    let mut at = first;
+    for _ in 0..random.below(9) {
+        let among = random.pick(&[5, 5, 5, 8]);
+        let value = random.pick(&values[..among]).to_string();
+        let rise = random.pick(&[1, 1, 1, 2, 0]);
+        if random.chance(35) && at + rise <= last {
+            at += rise;
+            lines += &format!("#{at}\n");
+        } else {
+            lines += &(value + "\n");
         }
-        let ends = lines.match_indices('\n').map(|(end, _)| end);
-        let begins = |end: &usize| beginnings.contains(&lines.as_bytes()[..=*end]);
-        let good = ends.clone().take_while(begins).count();
-        let line = match wholes.contains(lines.as_bytes()) {
-            true => 0,
-            false => good + 1,
-        };
-        assert_eq!(wrong_line(lines.as_bytes()), line, "{lines}");
     }
+    lines.into_bytes()
 }
 
 /// A reading goes by what it says, from any place on.
@@ -670,22 +682,11 @@ fn readings_made_by_hand() {
     let text = behind("#0 b0_! b1_\" #1 b1_! b0_\" #4");
     let place = text.len() - b"b1 !\nb0 \"\n#4\n".len();
     let from = |at, job, feed| {
-        let reading = Reading {
-            place,
-            lines: 10,
-            at,
-            job,
-            feed,
-        };
+        let reading = reading(place, 10, (at, job, feed));
         let found = Own.wave_stretch(&text, reading);
         assert!(found.refusal == 0 || found.reading == reading);
-        (
-            found.refusal,
-            found.line,
-            found.from,
-            found.to,
-            found.number,
-        )
+        let Stretch { from, to, .. } = found;
+        (found.refusal, found.line, from, to, found.number)
     };
     assert_eq!(from(1, 0, 1), (0, 0, 1, 4, 1));
     assert_eq!(from(3, 7, 16), (0, 0, 3, 4, 1));
@@ -697,31 +698,46 @@ fn readings_made_by_hand() {
     assert_eq!(from(LAST_INSTANT - 1, 0, 1), (20, 13, 0, 0, 0));
     assert_eq!(from(LAST_INSTANT, 0, 1), (20, 11, 0, 0, 0));
     assert_eq!(from(u64::MAX, 0, 1), (20, 11, 0, 0, 0));
-    // It stays, where only the job's value comes.
-    let stays = b"b0 !\n#9\n";
-    let reading = Reading {
-        place: 0,
-        lines: 0,
-        at: 1,
-        job: 5,
-        feed: 17,
-    };
-    let text = [&b"."[..], stays].concat();
-    let found = Own.wave_stretch(
-        &text,
-        Reading {
-            place: 1,
-            ..reading
-        },
-    );
+}
+
+#[test]
+fn a_reading_is_taken_as_it_stands() {
+    // The feed stays, where only the job's value comes.
+    let text = b".b0 !\n#9\n";
+    let wires = (1, 5, 17);
+    let found = Own.wave_stretch(text, reading(1, 0, wires));
     assert_eq!((found.refusal, found.kind, found.number), (0, 2, 17));
     // In front it does not matter what else it says.
-    assert_eq!(Own.wave_stretch(&text, reading).line, 1);
-    let front = Own.wave_stretch(EXAMPLE.as_bytes(), reading);
-    assert_eq!(
-        front,
-        Own.wave_stretch(EXAMPLE.as_bytes(), Reading::default())
-    );
+    assert_eq!(Own.wave_stretch(text, reading(0, 0, wires)).line, 1);
+    let example = EXAMPLE.as_bytes();
+    let front = Own.wave_stretch(example, reading(0, 0, wires));
+    assert_eq!(front, Own.wave_stretch(example, Reading::default()));
+    // The end, by what the reading says of it.
+    let end = reading(EXAMPLE.len(), 3, (u64::MAX, 4, 99));
+    let found = Own.wave_stretch(example, end);
+    assert_eq!((found.from, found.to, found.kind), (u64::MAX, u64::MAX, 0));
+    assert_eq!((found.reading, found.refusal), (end, 0));
+}
+
+/// So many bytes and lines on, behind a mark and with the wires before it.
+fn reading(place: usize, lines: usize, (at, job, feed): (Instant, u32, u32)) -> Reading {
+    Reading {
+        place,
+        lines,
+        at,
+        job,
+        feed,
+    }
+}
+
+/// The answer that says no, and with which line.
+fn unread(reading: Reading, refusal: Refusal, line: usize) -> Stretch {
+    Stretch {
+        reading,
+        refusal,
+        line,
+        ..Stretch::default()
+    }
 }
 
 #[test]
@@ -739,33 +755,11 @@ fn readings_in_order() {
         (length + 1, 0, false),
         (usize::MAX, usize::MAX, false),
     ] {
-        let reading = Reading {
-            place,
-            lines,
-            ..Reading::default()
-        };
+        let reading = reading(place, lines, (0, 0, 0));
         let found = Own.wave_stretch(text, reading);
-        assert_eq!(found.refusal != 13, in_order, "{reading:?}");
-        if !in_order {
-            let refused = Stretch {
-                reading,
-                refusal: 13,
-                ..Stretch::default()
-            };
-            assert_eq!(found, refused);
-        }
+        assert_eq!(found == unread(reading, 13, 0), !in_order, "{reading:?}");
+        assert_eq!(found.refusal == 13, !in_order, "{reading:?}");
     }
-    // The end, by what the reading says of it.
-    let reading = Reading {
-        place: length,
-        lines: 3,
-        at: u64::MAX,
-        job: 4,
-        feed: 99,
-    };
-    let found = Own.wave_stretch(text, reading);
-    assert_eq!((found.from, found.to, found.kind), (u64::MAX, u64::MAX, 0));
-    assert_eq!((found.reading, found.refusal), (reading, 0));
 }
 
 // ---------------------------------------------------------------- the programs
@@ -919,46 +913,39 @@ fn is_due(cursor: &Cursor) -> bool {
 }
 
 fn misdrawn(fault: u32, desk: State, cursor: Cursor, steps: u32, buffer: &mut [u8]) -> Waved {
-    if let (30..=42, Some(state)) = (fault, read(&desk).filter(Desk::in_order)) {
-        let gone = match all_but(fault - 30, &cursor, state.clock) {
-            true => parts::as_it_says(&Cursor {
-                clock: state.clock,
-                ..cursor
-            })
-            .go_on(state, steps, buffer.len()),
-            false => Err(13),
-        };
-        return waved(desk, cursor, gone, buffer);
-    }
-    let odd = [cursor.ran, cursor.mark, cursor.job, cursor.feed]
-        .iter()
-        .any(|flag| *flag > 1);
+    let odd = [cursor.ran, cursor.mark, cursor.job, cursor.feed];
+    let odd = odd.iter().any(|flag| *flag > 1);
     let unreached = cursor.mark != 0 && cursor.feed == 0 && cursor.position != 0;
-    let steps = match fault {
+    let asked = match fault {
         10 => steps.saturating_add(1),
         11 if steps > 1 => steps - 1,
         12 if is_due(&cursor) => 0,
         _ => steps,
     };
-    let length = buffer.len();
+    let less = buffer.len().saturating_sub(1);
     let mut drawn = match fault {
-        13 => Own.wave(desk, cursor, steps, &mut buffer[..length.saturating_sub(1)]),
-        14 if odd => Waved {
-            desk,
-            cursor,
-            refusal: 13,
-            ..Waved::default()
-        },
-        15 if unreached => Waved {
-            desk,
-            cursor,
-            refusal: 13,
-            ..Waved::default()
-        },
-        _ => Own.wave(desk, cursor, steps, buffer),
+        13 => Own.wave(desk, cursor, asked, &mut buffer[..less]),
+        14 if odd => waved(desk, cursor, Err(13), buffer),
+        15 if unreached => waved(desk, cursor, Err(13), buffer),
+        30..=42 if in_order(&desk) => drawn_but_for(fault - 30, desk, cursor, steps, buffer),
+        _ => Own.wave(desk, cursor, asked, buffer),
     };
-    misdrawn_answer(fault, desk, cursor, steps, &mut drawn, buffer);
+    misdrawn_answer(fault, desk, cursor, asked, &mut drawn, buffer);
     drawn
+}
+
+/// Where one of the tests of a cursor is left out.
+fn drawn_but_for(test: u32, desk: State, cursor: Cursor, steps: u32, buffer: &mut [u8]) -> Waved {
+    let state = read(&desk).expect("it is in order");
+    let clock = state.clock;
+    let gone = match all_but(test, &cursor, clock) {
+        true => {
+            let run = parts::as_it_says(&Cursor { clock, ..cursor });
+            run.go_on(state, steps, buffer.len())
+        }
+        false => Err(13),
+    };
+    waved(desk, cursor, gone, buffer)
 }
 
 fn misdrawn_answer(
@@ -1118,13 +1105,11 @@ impl Lax {
     }
 
     fn next(&self, come: Come, line: Line) -> Come {
-        let same = |one, other| one == other && !self.is(92);
         match (come, line) {
             (Come::Heading(heads), Line::Head(head)) if heads == head => Come::Heading(head + 1),
             (Come::Heading(heads), Line::Head(head)) if self.is(104) && heads == head + 1 => come,
-            (Come::Heading(6), Line::Mark(at)) if at <= LAST_INSTANT || self.is(103) => {
-                Come::Opened(at)
-            }
+            (Come::Heading(6), Line::Mark(at)) if at <= LAST_INSTANT => Come::Opened(at),
+            (Come::Heading(6), Line::Mark(at)) if self.is(103) => Come::Opened(at),
             (Come::Heading(5), Line::Mark(at)) if self.is(105) => Come::Opened(at),
             (Come::Opened(at), Line::Job(job)) if self.may_begin(at) => Come::Jobbed(at, job),
             (Come::Opened(_), Line::Mark(at)) if self.is(99) => Come::Opened(at),
@@ -1133,29 +1118,32 @@ impl Lax {
             (Come::Jobbed(at, job), Line::Mark(to)) if self.is(101) => self.goes_to(at, to, job, 0),
             (Come::Going(at, job, feed), Line::Mark(to)) => self.goes_to(at, to, job, feed),
             (Come::Going(at, 0, 0), Line::Job(job)) if self.is(93) => self.ran(at, job, 0),
-            (Come::Marked(at, job, feed), Line::Job(new))
-                if self.may_begin(at) && !same(new, job) =>
-            {
-                Come::Halfway(at, new, feed)
-            }
-            (Come::Marked(at, job, feed), Line::Feed(new))
-                if self.may_begin(at) && !same(new, feed) =>
-            {
-                self.ran(at, job, new)
-            }
-            (Come::Marked(at, job, feed), Line::Mark(to)) if self.is(98) => {
-                self.goes_to(at, to, job, feed)
-            }
-            (Come::Halfway(at, job, feed), Line::Feed(new)) if !same(new, feed) => {
-                self.ran(at, job, new)
-            }
-            (Come::Halfway(at, job, feed), Line::Mark(to)) => {
-                match job == 0 || feed == 0 || self.is(100) {
-                    true if self.is(126) && feed > 16 => Come::Dead,
-                    true => self.goes_to(at, to, job, feed),
-                    false => Come::Dead,
-                }
-            }
+            (Come::Marked(at, job, feed), line) => self.after_a_mark(at, job, feed, line),
+            (Come::Halfway(at, job, feed), line) => self.after_a_job(at, job, feed, line),
+            _ => Come::Dead,
+        }
+    }
+
+    fn is_new(&self, value: u32, before: u32) -> bool {
+        value != before || self.is(92)
+    }
+
+    fn after_a_mark(&self, at: Instant, job: u32, feed: u32, line: Line) -> Come {
+        match line {
+            Line::Mark(to) if self.is(98) => self.goes_to(at, to, job, feed),
+            _ if !self.may_begin(at) => Come::Dead,
+            Line::Job(new) if self.is_new(new, job) => Come::Halfway(at, new, feed),
+            Line::Feed(new) if self.is_new(new, feed) => self.ran(at, job, new),
+            _ => Come::Dead,
+        }
+    }
+
+    fn after_a_job(&self, at: Instant, job: u32, feed: u32, line: Line) -> Come {
+        let alone = job == 0 || feed == 0 || self.is(100);
+        match line {
+            Line::Feed(new) if self.is_new(new, feed) => self.ran(at, job, new),
+            Line::Mark(_) if self.is(126) && feed > 16 => Come::Dead,
+            Line::Mark(to) if alone => self.goes_to(at, to, job, feed),
             _ => Come::Dead,
         }
     }
@@ -1218,79 +1206,38 @@ impl Lax {
 }
 
 /// One stretch by this reader.
-fn misread(fault: u32, text: &[u8], reading: Reading) -> Stretch {
-    let lax = Lax(fault);
-    let refused = |refusal, line| Stretch {
-        reading,
-        refusal,
-        line,
-        ..Stretch::default()
-    };
-    let Reading {
-        place,
-        lines,
-        at,
-        job,
-        feed,
-    } = reading;
+fn misread(fault: u32, text: &[u8], given: Reading) -> Stretch {
+    let Reading { place, lines, .. } = given;
     let in_order = (lines <= place || fault == 121) && place <= text.len();
-    if !in_order || (fault == 120 && place == text.len()) || (fault == 127 && job > 0 && feed > 0) {
-        return refused(if fault == 122 { 20 } else { 13 }, 0);
+    let both = given.job > 0 && given.feed > 0;
+    if !in_order || (fault == 120 && place == text.len()) || (fault == 127 && both) {
+        return unread(given, if fault == 122 { 20 } else { 13 }, 0);
     }
-    let front = place == 0 && !(fault == 123 && at != 0);
-    let mut come = if front {
-        Come::Heading(0)
-    } else {
-        Come::Marked(at, job, feed)
+    let mut come = match place == 0 && !(fault == 123 && given.at != 0) {
+        true => Come::Heading(0),
+        false => Come::Marked(given.at, given.job, given.feed),
     };
     let (mut from, mut count) = (place, lines);
     while from < text.len() {
-        let (line, next) = match lax.whole(text, from) {
-            Some(whole) => whole,
-            None => return refused(20, count.wrapping_add(1)),
-        };
         let before = come;
-        come = lax.after(come, line);
-        (from, count) = (next, count.wrapping_add(1));
+        (come, from) = match Lax(fault).whole(text, from) {
+            Some((line, next)) => (Lax(fault).after(come, line), next),
+            None => (Come::Dead, from),
+        };
+        count = count.wrapping_add(1);
         match (before, come) {
-            (_, Come::Dead) => {
-                return refused(20, if fault == 128 { count - lines } else { count })
-            }
+            (_, Come::Dead) if fault == 128 => return unread(given, 20, count - lines),
+            (_, Come::Dead) => return unread(given, 20, count),
             (Come::Going(since, ..) | Come::Halfway(since, ..), Come::Marked(at, job, feed)) => {
-                let reading = Reading {
-                    place: from,
-                    lines: count,
-                    at,
-                    job,
-                    feed,
-                };
-                return as_stretch(fault, reading, since);
+                return as_stretch(fault, reading(from, count, (at, job, feed)), since);
             }
             _ => (),
         }
     }
     match come {
-        Come::Opened(at) => ended(
-            fault,
-            Reading {
-                place: from,
-                lines: count,
-                at,
-                job: 0,
-                feed: 0,
-            },
-        ),
-        Come::Marked(at, job, feed) => ended(
-            fault,
-            Reading {
-                place: from,
-                lines: count,
-                at,
-                job,
-                feed,
-            },
-        ),
-        _ => refused(20, count.wrapping_add(1)),
+        Come::Opened(at) => ended(fault, reading(from, count, (at, 0, 0))),
+        Come::Marked(at, job, feed) => ended(fault, reading(from, count, (at, job, feed))),
+        _ => unread(given, 20, count.wrapping_add(1)),
     }
 }
 
