@@ -82,7 +82,7 @@ type Lines = Vec<Vec<u8>>;
 /// The lines with one of them in another's place, or more, or none.
 fn replaced(lines: &Lines, place: usize, by: &[Vec<u8>]) -> Vec<u8> {
     let (front, rest) = lines.split_at(place);
-    [&front.concat(), &by.concat(), &rest[1..].concat()[..]].concat()
+    [&front.concat()[..], &by.concat(), &rest[1..].concat()].concat()
 }
 
 fn dropped(lines: &Lines) -> Lines {

@@ -519,18 +519,18 @@ fn a_line_written_otherwise() {
             format!("$dumpvars\n{line}"),
         ] {
             let text = [
-                &lines[..place].concat(),
+                &lines[..place].concat()[..],
                 &other,
-                &lines[place + 1..].concat()[..],
+                &lines[place + 1..].concat(),
             ];
             assert_eq!(wrong_line(text.concat().as_bytes()), place + 1, "{other:?}");
         }
         for (from, to) in [(" ", "  "), (" ", "\t"), ("b", "B"), ("$", "£")] {
             let other = line.replacen(from, to, 1);
             let text = [
-                &lines[..place].concat(),
+                &lines[..place].concat()[..],
                 &other,
-                &lines[place + 1..].concat()[..],
+                &lines[place + 1..].concat(),
             ];
             let wrong = if other == **line { 0 } else { place + 1 };
             assert_eq!(wrong_line(text.concat().as_bytes()), wrong, "{other:?}");
