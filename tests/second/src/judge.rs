@@ -213,8 +213,8 @@ pub enum Found {
 
 /// All that one stretch is told by, up to the mark that ends it.
 struct Passage {
-    /// The first mark and the lines in front of it, where the text is read from there;
-    /// else the wires before the mark that was read last.
+    /// The wires before the mark that was read last; nothing where the text is read from its
+    /// front, so that the lines there and the first mark are of the passage.
     before: Option<Wires>,
     from: Instant,
     to: Instant,

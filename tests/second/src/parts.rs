@@ -94,8 +94,8 @@ impl Run {
     /// What is due, then the mark at the end, none where no step was taken. No run is left
     /// where all of it was written.
     pub fn close(mut self, room: usize) -> Result<(Option<Run>, Vec<u8>), Refusal> {
-        let before = self.clone();
-        if self.last.is_some() {
+        let ran = self.last.is_some();
+        if ran {
             self.due.push_back(Line::Mark(self.clock));
         }
         let mut bytes = Vec::new();
@@ -106,7 +106,7 @@ impl Run {
         if bytes.is_empty() {
             return Err(BUFFER_TOO_SHORT);
         }
-        if before.last.is_some() {
+        if ran {
             self.due.pop_back();
         }
         Ok((Some(self), bytes))
