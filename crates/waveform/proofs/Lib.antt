@@ -8,6 +8,7 @@ pub mod Bytes
 pub mod Plain
 pub mod Texts
 pub mod Judging
+pub mod Telling
 pub mod Examples
 pub mod Lengths
 pub mod Cursors

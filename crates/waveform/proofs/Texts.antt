@@ -55,7 +55,7 @@ other-dead (Marked t j f) = refl
 other-dead (Halfway t j f) = refl
 other-dead Dead = refl
 
-done-alive : (s : State) → done s ≡ true → isDead s ≡ false
+pub done-alive : (s : State) → done s ≡ true → isDead s ≡ false
 done-alive (Heading k) e = refl
 done-alive (Opened t) e = refl
 done-alive (Jobbed t j) e = refl
@@ -65,7 +65,7 @@ done-alive (Halfway t j f) e = refl
 done-alive Dead e = absurd (false-not-true e)
 
 -- what goes on to a state that is not dead was not dead
-alive-before : (s : State) (xs : List Token) → isDead (come s xs) ≡ false → isDead s ≡ false
+pub alive-before : (s : State) (xs : List Token) → isDead (come s xs) ≡ false → isDead s ≡ false
 alive-before s xs e = go (isDead s) refl
   where
     go : (b : Bool) → isDead s ≡ b → isDead s ≡ false
@@ -86,7 +86,7 @@ each-writable : (ls : List (List ℕ)) → Each Writable (map says ls)
 each-writable [] = tt
 each-writable (l ∷ ls) = (says-writable l, each-writable ls)
 
-said-again : (xs : List Token) → Each Plain xs → map says (map written xs) ≡ xs
+pub said-again : (xs : List Token) → Each Plain xs → map says (map written xs) ≡ xs
 said-again [] h = refl
 said-again (x ∷ xs) h = λ i. says-written x (h .0) i ∷ said-again xs (h .1) i
 
@@ -140,7 +140,7 @@ ends-test : (b : Bool) (s : State) (n : ℕ) → (isDead s ≡ false → endsOne
 ends-test true s n h e = h e
 ends-test false s n h e = absurd (false-not-true (sym e))
 
-ends-as-said : (s : State) (x : Token) → isDead (next s x) ≡ false → endsOne (next s x) ≡ length (endedBy s x)
+pub ends-as-said : (s : State) (x : Token) → isDead (next s x) ≡ false → endsOne (next s x) ≡ length (endedBy s x)
 ends-as-said (Heading k) (token.Head i) e = ends-test (eqb i k && ltb k headCount) (Heading (suc k)) 0 (λ d. refl) e
 ends-as-said (Heading k) (token.Mark t) e = ends-test (eqb k headCount && leb t lastInstant) (Opened t) 0 (λ d. refl) e
 ends-as-said (Heading k) (token.Job j) e = refl
@@ -206,7 +206,7 @@ whole (r ∷ []) = []
 whole (l ∷ m ∷ ls) = l ∷ whole (m ∷ ls)
 
 -- a line without a newline
-abbrev Clean : List ℕ → Type 0
+abbrev pub Clean : List ℕ → Type 0
 Clean l = Each (λ b. eqb b newline ≡ false) l
 
 -- such a line with its newline is the first part
@@ -216,7 +216,7 @@ line-parted [] s c = refl
 line-parted (b ∷ l) s c =
     ap (λ x. cond x ([] ∷ parted newline (l ++ (newline ∷ s))) (grown b (parted newline (l ++ (newline ∷ s))))) (c .0) ∙ ap (grown b) (line-parted l s (c .1))
 
-text-parted : (ls : List (List ℕ)) → Each Clean ls → linesOf (asText ls) ≡ ls ++ ([] ∷ [])
+pub text-parted : (ls : List (List ℕ)) → Each Clean ls → linesOf (asText ls) ≡ ls ++ ([] ∷ [])
 unfolding asText parted
 text-parted [] c = refl
 text-parted (l ∷ ls) c = line-parted l (asText ls) (c .0) ∙ ap (l ∷_) (text-parted ls (c .1))
@@ -278,7 +278,7 @@ written-clean (token.Job n) = (refl, each-append (λ b. eqb b newline ≡ false)
 written-clean (token.Feed n) = (refl, each-append (λ b. eqb b newline ≡ false) (bits n) (space ∷ quote ∷ []) (digits-clean 2 (bits n) (digits-all 2 binary n)) (refl, (refl, tt)))
 written-clean token.Other = tt
 
-all-clean : (xs : List Token) → Each Clean (map written xs)
+pub all-clean : (xs : List Token) → Each Clean (map written xs)
 all-clean [] = tt
 all-clean (x ∷ xs) = (written-clean x, all-clean xs)
 

@@ -7,14 +7,10 @@ use Rattle.waveform.specs.declared.Token.{Token}
 use Rattle.waveform.specs.declared.Token.the-variants as token
 use Rattle.waveform.specs.declared.State.{State}
 use Rattle.waveform.specs.declared.State.the-variants.{Heading, Opened, Jobbed, Going, Marked, Halfway, Dead}
+use Rattle.waveform.specs.declared.stretches.Stretch.{Stretch}
 use Rattle.waveform.specs.Reading.{whoBy, next}
 
 -- the ticks from one instant up to another went to this one
-pub record Stretch : Type 0 where
-  pub from : ℕ
-  pub to : ℕ
-  pub who : Who
-
 abbrev pub stretch : ℕ → ℕ → Who → Stretch
 stretch from to who = record { from = from; to = to; who = who }
 

@@ -13,6 +13,7 @@ ghost use Prim.Native.Nat.{_≤_};
 
 pub mod cursor;
 pub mod put;
+pub mod stretches;
 
 // What a line says: one of those in front, the instant of a mark, the value of the wire for jobs or of the one for feeds.
 pub enum Token {
