@@ -16,11 +16,11 @@ use Rattle.waveform.specs.Bytes.{headIn, valueOf, says}
 use Rattle.waveform.specs.Texts.{asText, textOf, reading, judge, judged}
 
 -- the lines in front of every run
-abbrev front : String
+abbrev pub front : String
 front = "$timescale 1 ms $end\n$scope module desk $end\n$var wire 32 ! job $end\n$var wire 5 \" feed $end\n$upscope $end\n$enddefinitions $end\n"
 
 -- a text with these lines behind them
-abbrev with : String → List ℕ
+abbrev pub with : String → List ℕ
 with s = spelt front ++ spelt s
 
 -- feeds (4,1,0) and (6,2,0) at 0, job 1 of 3 by 6, six ticks: feed 1, job 1 three times, feed 2 twice

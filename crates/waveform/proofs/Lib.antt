@@ -9,6 +9,10 @@ pub mod Plain
 pub mod Texts
 pub mod Judging
 pub mod Telling
+pub mod Onward
+pub mod OneByOne
+pub mod Stopped
+pub mod Taken
 pub mod Examples
 pub mod Lengths
 pub mod Cursors

@@ -7,8 +7,8 @@ use native.Mathlib.Omega.{arith}
 use lib.Dec.{leb, ltb}
 use lib.ListN.{length, take, drop, length-drop}
 use lib.Seq.{length-take-le}
-use borrow.Author.Tests.{le-leb, lt-leb}
-use Rattle.lists.proofs.Tests.{both-made, false-not-true}
+use borrow.Author.Tests.{le-leb, lt-leb, leb-true, ltb-true}
+use Rattle.lists.proofs.Tests.{both, both-made, false-not-true}
 use Rattle.ticks.specs.Ticks.{lastInstant}
 use Rattle.text.specs.declared.Found.{Found}
 use Rattle.text.specs.Fields.{newline, foundIn, parted, linesOf}
@@ -19,7 +19,7 @@ use Rattle.waveform.specs.declared.State.{State}
 use Rattle.waveform.specs.declared.State.the-variants.{Heading, Opened, Jobbed, Going, Marked, Halfway, Dead}
 use Rattle.waveform.specs.declared.stretches.Bookmark.{Bookmark}
 use Rattle.waveform.specs.declared.stretches.Told.{Told}
-use Rattle.waveform.specs.declared.stretches.Told.the-variants.{Disorder, Wrong, Next, Over}
+use Rattle.waveform.specs.declared.stretches.Told.the-variants.{Disorder, Wrong, Next}
 use Rattle.waveform.specs.Reading.{alone, whoBy, goesTo, next}
 use Rattle.waveform.specs.Bytes.{says}
 use Rattle.waveform.specs.Stretches.{stretch, endedBy}
@@ -34,11 +34,20 @@ pub record EndsHere (s : State) (x : Token) : Type 0 where
   pub feed : ℕ
   pub after : next s x ≡ Marked to job feed
   pub ended : endedBy s x ≡ stretch (sinceIn s) to (whoBy job feed) ∷ []
+  pub longer : sinceIn s < to
+  pub within : to ≤ lastInstant
 
 -- a test that leads to a state that is not dead
-not-dead : (b : Bool) (s : State) → isDead (cond b s Dead) ≡ false → cond b s Dead ≡ s
-not-dead true s e = refl
+not-dead : (b : Bool) (s : State) → isDead (cond b s Dead) ≡ false → (b ≡ true) × (cond b s Dead ≡ s)
+not-dead true s e = (refl, refl)
 not-dead false s e = absurd (false-not-true (sym e))
+
+-- a mark that goes on
+mark-on : (t u j f : ℕ) → isDead (goesTo t j f u) ≡ false → (goesTo t j f u ≡ Marked u j f) × (t < u) × (u ≤ lastInstant)
+mark-on t u j f e =
+    let on = not-dead (ltb t u && leb u lastInstant) (Marked u j f) e in
+    let b = both (ltb t u) (leb u lastInstant) (on .0) in
+    (on .1, ltb-true _ _ (b .0), leb-true _ _ (b .1))
 
 pub ends-here : (s : State) (x : Token) → isDead (next s x) ≡ false → endsOne (next s x) ≡ 1 → EndsHere s x
 ends-here s x e h = go s x e (sym (ends-as-said s x e) ∙ h)
@@ -48,15 +57,18 @@ ends-here s x e h = go s x e (sym (ends-as-said s x e) ∙ h)
     go (Opened t) x e h = absurd (omega (arith, h))
     go (Jobbed t j) x e h = absurd (omega (arith, h))
     go (Going t j f) (token.Head i) e h = absurd (omega (arith, h))
-    go (Going t j f) (token.Mark u) e h = record { to = u; job = j; feed = f; after = not-dead (ltb t u && leb u lastInstant) (Marked u j f) e; ended = refl }
+    go (Going t j f) (token.Mark u) e h =
+        let on = mark-on t u j f e in
+        record { to = u; job = j; feed = f; after = on .0; ended = refl; longer = on .1; within = on .2 }
     go (Going t j f) (token.Job i) e h = absurd (omega (arith, h))
     go (Going t j f) (token.Feed g) e h = absurd (omega (arith, h))
     go (Going t j f) token.Other e h = absurd (omega (arith, h))
     go (Marked t j f) x e h = absurd (omega (arith, h))
     go (Halfway t j f) (token.Head i) e h = absurd (omega (arith, h))
     go (Halfway t j f) (token.Mark u) e h =
-        let on = not-dead (alone j f) (goesTo t j f u) e in
-        record { to = u; job = j; feed = f; after = on ∙ not-dead (ltb t u && leb u lastInstant) (Marked u j f) (ap isDead (sym on) ∙ e); ended = refl }
+        let one = not-dead (alone j f) (goesTo t j f u) e in
+        let on = mark-on t u j f (ap isDead (sym (one .1)) ∙ e) in
+        record { to = u; job = j; feed = f; after = one .1 ∙ on .0; ended = refl; longer = on .1; within = on .2 }
     go (Halfway t j f) (token.Job i) e h = absurd (omega (arith, h))
     go (Halfway t j f) (token.Feed g) e h = absurd (omega (arith, h))
     go (Halfway t j f) token.Other e h = absurd (omega (arith, h))
@@ -89,7 +101,7 @@ module _ (s : State) (x : Token) (n : State) (after : n ≡ next s x) (p k : ℕ
   told-wrong d = ap (λ b. cond b (Wrong k) (orOn (endedBy s x) (behind (next s x) p k) on)) (ap isDead (sym after) ∙ d)
 
   -- a text that goes on tells what the line ends, or what comes after it
-  goes-on : isDead n ≡ false → lineTold s x p k on ≡ orOn (endedBy s x) (behind (next s x) p k) on
+  pub goes-on : isDead n ≡ false → lineTold s x p k on ≡ orOn (endedBy s x) (behind (next s x) p k) on
   goes-on d = ap (λ b. cond b (Wrong k) (orOn (endedBy s x) (behind (next s x) p k) on)) (ap isDead (sym after) ∙ d)
 
   pub told-ended : isDead n ≡ false → endsOne n ≡ 1 → lineTold s x p k on ≡ Next (endingAt (behind n p k) (sinceIn s)) (behind n p k)
@@ -106,7 +118,7 @@ module _ (s : State) (x : Token) (n : State) (after : n ≡ next s x) (p k : ℕ
 -- WHAT IS LEFT OF A TEXT
 module _ (s : State) where
   -- a whole line, and what is left
-  tell-line : (p k : ℕ) (l x : List ℕ) → tell s p k (l ∷ linesOf x) ≡ lineTold s (says l) (p + suc (length l)) (suc k) (tell (next s (says l)) (p + suc (length l)) (suc k) (linesOf x))
+  pub tell-line : (p k : ℕ) (l x : List ℕ) → tell s p k (l ∷ linesOf x) ≡ lineTold s (says l) (p + suc (length l)) (suc k) (tell (next s (says l)) (p + suc (length l)) (suc k) (linesOf x))
   unfolding tell
   tell-line p k l x =
       let (f, fs, e) = fields-some newline x in

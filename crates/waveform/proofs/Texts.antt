@@ -222,7 +222,7 @@ text-parted [] c = refl
 text-parted (l ∷ ls) c = line-parted l (asText ls) (c .0) ∙ ap (l ∷_) (text-parted ls (c .1))
 
 -- and the other way round
-abbrev rejoined : List (List ℕ) → List ℕ
+abbrev pub rejoined : List (List ℕ) → List ℕ
 rejoined [] = []
 rejoined (r ∷ []) = r
 rejoined (l ∷ m ∷ ls) = l ++ (newline ∷ rejoined (m ∷ ls))
@@ -236,7 +236,7 @@ rejoined-grown b (l ∷ m ∷ ls) = refl
 none-never : (s : List ℕ) → linesOf s ≡ [] → ⊥
 none-never s e = let (f, fs, same) = fields-some newline s in let z : _≡_ {A = ℕ} 0 1 = cc in omega arith
 
-parted-rejoined : (s : List ℕ) → rejoined (linesOf s) ≡ s
+pub parted-rejoined : (s : List ℕ) → rejoined (linesOf s) ≡ s
 unfolding parted
 parted-rejoined [] = refl
 parted-rejoined (b ∷ s) = go (eqb b newline) refl (parted newline s) refl (parted-rejoined s)
@@ -356,7 +356,7 @@ run-start t ws r =
     ∙ ap (λ s. readAll (lineRead (reading (Heading headCount) (0 + headCount) 0 0) s) (body t ws) .start) on
     ∙ started (lineRead (reading (Heading headCount) (0 + headCount) 0 0) (Opened t)) (body t ws) tt
 
-end-is : (t : ℕ) (ws : List Who) → endIn (endOf t ws) ≡ t + length ws
+pub end-is : (t : ℕ) (ws : List Who) → endIn (endOf t ws) ≡ t + length ws
 end-is t [] = omega arith
 end-is t (w ∷ ws) = omega arith
 
@@ -380,7 +380,7 @@ record WellFrom (r : Reading) (ps : List (List ℕ)) : Type 0 where
   parts : ps ≡ lines ++ ([] ∷ [])
   ends : done (come (r .state) (map says lines)) ≡ true
 
-wrong-not-well : (n a b c : ℕ) → Wrong n ≡ Well a b c → ⊥
+pub wrong-not-well : (n a b c : ℕ) → Wrong n ≡ Well a b c → ⊥
 wrong-not-well n a b c h = let z : _≡_ {A = ℕ} 0 1 = cc in omega arith
 
 well-parts : (r : Reading) (ps : List (List ℕ)) (a b c : ℕ) → judge r ps ≡ Well a b c → WellFrom r ps
