@@ -3,7 +3,7 @@
 use mathlib.Core.Path.{_≡_, refl, sym, ap, subst, _∙_}
 use mathlib.Core.Bool.{true, false, cond}
 use mathlib.Core.List.{List, [], _∷_, _++_, map}
-use Prim.Native.Nat.{ℕ, suc, _+_, _-_, _≤_}
+use Prim.Native.Nat.{ℕ, suc, _+_, _≤_}
 use native.Mathlib.Omega.{arith}
 use native.Mathlib.Decide.{ℕ-discrete}
 use lib.ListN.{length, drop, length-map}
@@ -28,7 +28,7 @@ use Rattle.waveform.proofs.Names.{told-names}
 use Rattle.waveform.proofs.Plain.{told-plain}
 use Rattle.waveform.proofs.Texts.{done-alive, alive-before, said-again, whole, text-parted, all-clean, end-is, OfARun, well-is-a-run}
 use Rattle.waveform.proofs.Telling.{ends-here, ends-none, goes-on, told-on, tell-line, told-in-order}
-use Rattle.waveform.proofs.Onward.{Past, line-past, at-end, wrong-not-next, over-not-next, disorder-not-next}
+use Rattle.waveform.proofs.Onward.{Past, line-past, at-end}
 
 -- LINES THAT CAN GO ON: the stretches that they end are told, and then whatever is told behind them
 pub record Reached (s : List ℕ) (b : Bookmark) (n : State) (k : ℕ) (ls ps : List (List ℕ)) : Type 0 where
@@ -163,6 +163,22 @@ well-told s a b c h =
       instant = end-is a (r .names) ∙ sym (r .last);
     }
 
+-- what is told is one thing
+wrong-not-next : (n : ℕ) (x : Stretch) (c : Bookmark) → Wrong n ≡ Next x c → ⊥
+wrong-not-next n x c e = let z : _≡_ {A = ℕ} 0 1 = cc in omega arith
+
+over-not-next : (b : Bookmark) (x : Stretch) (c : Bookmark) → Over b ≡ Next x c → ⊥
+over-not-next b x c e = let z : _≡_ {A = ℕ} 0 1 = cc in omega arith
+
+wrong-not-over : (n : ℕ) (c : Bookmark) → Wrong n ≡ Over c → ⊥
+wrong-not-over n c e = let z : _≡_ {A = ℕ} 0 1 = cc in omega arith
+
+disorder-not-over : (c : Bookmark) → Disorder ≡ Over c → ⊥
+disorder-not-over c e = let z : _≡_ {A = ℕ} 0 1 = cc in omega arith
+
+disorder-not-next : (x : Stretch) (c : Bookmark) → Disorder ≡ Next x c → ⊥
+disorder-not-next x c e = let z : _≡_ {A = ℕ} 0 1 = cc in omega arith
+
 -- ONE STEP, from a bookmark from which these are told one after another, until it is over
 module _ (s : List ℕ) (b : Bookmark) (last : Bookmark) where
   -- a stretch that is told is the first of them, and from the bookmark behind it the others are told
@@ -181,9 +197,9 @@ module _ (s : List ℕ) (b : Bookmark) (last : Bookmark) where
 
   -- nothing else is told
   pub never-wrong : (xs : List Stretch) (n : ℕ) → OneByOne s b xs (Over last) → nextTold s b ≡ Wrong n → ⊥
-  never-wrong [] n o e = let same : Wrong n ≡ Over last = sym e ∙ o in let z : _≡_ {A = ℕ} 0 1 = cc in omega arith
+  never-wrong [] n o e = wrong-not-over n last (sym e ∙ o)
   never-wrong (y ∷ ys) n (d, t, o) e = wrong-not-next n y d (sym e ∙ t)
 
   pub never-disorder : (xs : List Stretch) → OneByOne s b xs (Over last) → nextTold s b ≡ Disorder → ⊥
-  never-disorder [] o e = let same : Disorder ≡ Over last = sym e ∙ o in let z : _≡_ {A = ℕ} 0 1 = cc in omega arith
+  never-disorder [] o e = disorder-not-over last (sym e ∙ o)
   never-disorder (y ∷ ys) (d, t, o) e = disorder-not-next y d (sym e ∙ t)

@@ -1,4 +1,5 @@
--- What is told from any bookmark of any text gets on: a stretch that is told is not empty, and the bookmark behind it stands further on.
+-- What is told from any bookmark of any text gets on: a stretch that is told is not empty, the bookmark behind it stands further on, and
+-- where it is over nothing is left.
 use mathlib.Core.Path.{_≡_, refl, sym, ap, subst, _∙_}
 use mathlib.Core.Bool.{Bool, true, false, cond}
 use mathlib.Core.List.{List, [], _∷_}
@@ -21,8 +22,8 @@ use Rattle.waveform.specs.declared.stretches.Told.{Told}
 use Rattle.waveform.specs.declared.stretches.Told.the-variants.{Disorder, Wrong, Next, Over}
 use Rattle.waveform.specs.Reading.{whoBy, next, done}
 use Rattle.waveform.specs.Bytes.{says}
-use Rattle.waveform.specs.Texts.{isDead, isNothing, endsOne}
-use Rattle.waveform.specs.Telling.{inOrder, standsAt, behind, sinceIn, endingAt, tell, nextTold}
+use Rattle.waveform.specs.Texts.{isDead, isNothing, endIn, endsOne}
+use Rattle.waveform.specs.Telling.{inOrder, standsAt, behind, lineTold, tell, nextTold}
 use Rattle.waveform.proofs.Texts.{rejoined, parted-rejoined}
 use Rattle.waveform.proofs.Telling.{ends-here, told-wrong, told-ended, told-on}
 
@@ -65,16 +66,6 @@ at-end s p h e =
     let none : drop p s ≡ [] = sym (parted-rejoined (drop p s)) ∙ ap rejoined e in
     omega (arith, length-drop p s, ap length none, h)
 
--- ANSWERS ARE TOLD APART
-pub wrong-not-next : (n : ℕ) (x : Stretch) (c : Bookmark) → Wrong n ≡ Next x c → ⊥
-wrong-not-next n x c e = let z : _≡_ {A = ℕ} 0 1 = cc in omega arith
-
-pub over-not-next : (b : Bookmark) (x : Stretch) (c : Bookmark) → Over b ≡ Next x c → ⊥
-over-not-next b x c e = let z : _≡_ {A = ℕ} 0 1 = cc in omega arith
-
-pub disorder-not-next : (x : Stretch) (c : Bookmark) → Disorder ≡ Next x c → ⊥
-disorder-not-next x c e = let z : _≡_ {A = ℕ} 0 1 = cc in omega arith
-
 -- A STRETCH THAT IS TOLD, AND THE BOOKMARK BEHIND IT
 pub record GetsOn (s : List ℕ) (p : ℕ) (x : Stretch) (c : Bookmark) : Type 0 where
   pub longer : x .from < x .to
@@ -85,68 +76,77 @@ pub record GetsOn (s : List ℕ) (p : ℕ) (x : Stretch) (c : Bookmark) : Type 0
   pub inside : c .place ≤ length s
   pub lines : c .lines ≤ c .place
 
-module _ (s : List ℕ) (x : Stretch) (c : Bookmark) where
-  -- from a place before it
-  sooner : (p q : ℕ) → p ≤ q → GetsOn s q x c → GetsOn s p x c
-  sooner p q h g = record { longer = g .longer; within = g .within; mark = g .mark; who = g .who; further = omega (arith, h, g .further); inside = g .inside; lines = g .lines }
+-- from a place and so many lines on: a wrong line is past those lines, a stretch gets on, and where it is over nothing is left
+abbrev Fits : List ℕ → ℕ → ℕ → Told → Type 0
+Fits s p k Disorder = Unit {0}
+Fits s p k (Wrong n) = k < n
+Fits s p k (Next x c) = GetsOn s p x c
+Fits s p k (Over c) = c .place ≡ length s
 
-  tell-gets-on : (ps : List (List ℕ)) (n : State) (p k : ℕ) → k ≤ p → p ≤ length s → linesOf (drop p s) ≡ ps → tell n p k ps ≡ Next x c → GetsOn s p x c
-  unfolding tell
-  tell-gets-on [] n p k h i e t = absurd (wrong-not-next (suc k) x c t)
-  tell-gets-on (l ∷ []) n p k h i e t = go (isNothing l) (done n) t
-    where
-      go : (a b : Bool) → cond a (cond b (Over (behind n p k)) (Wrong (suc k))) (Wrong (suc k)) ≡ Next x c → GetsOn s p x c
-      go true true t = absurd (over-not-next (behind n p k) x c t)
-      go true false t = absurd (wrong-not-next (suc k) x c t)
-      go false b t = absurd (wrong-not-next (suc k) x c t)
-  tell-gets-on (l ∷ m ∷ ls) n p k h i e t = go (isDead after) refl (ℕ-discrete (endsOne after) 1) (tell-gets-on (m ∷ ls) after place (suc k) (omega (arith, h)) (past .inside) (past .left))
-    where
-      after : State
-      after = next n (says l)
+-- what fits behind a line fits before it
+fits-before : (s : List ℕ) (p q k : ℕ) → p ≤ q → (t : Told) → Fits s q (suc k) t → Fits s p k t
+fits-before s p q k h Disorder f = tt
+fits-before s p q k h (Wrong n) f = omega (arith, f)
+fits-before s p q k h (Next x c) f =
+    record { longer = f .longer; within = f .within; mark = f .mark; who = f .who; further = omega (arith, h, f .further); inside = f .inside; lines = f .lines }
+fits-before s p q k h (Over c) f = f
 
-      place : ℕ
-      place = p + suc (length l)
-
-      past : Past s l p (m ∷ ls)
-      past = line-past s p l m ls i e
-
-      on : Told
-      on = tell after place (suc k) (m ∷ ls)
-
-      go : (d : Bool) → isDead after ≡ d → Dec (endsOne after ≡ 1) → (on ≡ Next x c → GetsOn s place x c) → GetsOn s p x c
-      go true d q ih = absurd (wrong-not-next (suc k) x c (sym (told-wrong n (says l) after refl place (suc k) on d) ∙ t))
-      go false d (no q) ih = sooner p place (omega arith) (ih (sym (told-on n (says l) after refl place (suc k) on d q) ∙ t))
-      go false d (yes q) ih =
-          let b = behind after place (suc k) in
-          let same : Next (endingAt b (sinceIn n)) b ≡ Next x c = sym (told-ended n (says l) after refl place (suc k) on d q) ∙ t in
-          let stretched : endingAt b (sinceIn n) ≡ x = cc in
-          let marked : b ≡ c = cc in
-          let here = ends-here n (says l) d q in
-          let to : b .at ≡ here .to = ap (λ y. behind y place (suc k) .at) (here .after) in
-          subst (λ y. GetsOn s p y c) stretched
-          (subst (λ y. GetsOn s p (endingAt b (sinceIn n)) y) marked
-          (record {
-            longer = omega (arith, here .longer, to);
-            within = omega (arith, here .within, to);
-            mark = refl;
-            who = refl;
-            further = omega arith;
-            inside = past .inside;
-            lines = omega (arith, h);
-          }))
-
--- an order that is told
-in-order-is : (s : List ℕ) (b : Bookmark) (t : Told) → nextTold s b ≡ t → (Disorder ≡ t → ⊥)
-    → (b .lines ≤ b .place) × (b .place ≤ length s) × (tell (standsAt b) (b .place) (b .lines) (linesOf (drop (b .place) s)) ≡ t)
-in-order-is s b t e h = go (inOrder (length s) b) refl e
+tell-fits : (s : List ℕ) (ps : List (List ℕ)) (n : State) (p k : ℕ) → k ≤ p → p ≤ length s → linesOf (drop p s) ≡ ps → Fits s p k (tell n p k ps)
+unfolding tell
+tell-fits s [] n p k h i e = omega arith
+tell-fits s (l ∷ []) n p k h i e = go l e (done n)
   where
-    go : (o : Bool) → inOrder (length s) b ≡ o → cond o (tell (standsAt b) (b .place) (b .lines) (linesOf (drop (b .place) s))) Disorder ≡ t
-        → (b .lines ≤ b .place) × (b .place ≤ length s) × (tell (standsAt b) (b .place) (b .lines) (linesOf (drop (b .place) s)) ≡ t)
-    go true o q = let w = both (leb (b .lines) (b .place)) (leb (b .place) (length s)) o in (leb-true _ _ (w .0), leb-true _ _ (w .1), q)
-    go false o q = absurd (h q)
+    go : (m : List ℕ) → linesOf (drop p s) ≡ m ∷ [] → (d : Bool) → Fits s p k (cond (isNothing m) (cond d (Over (behind n p k)) (Wrong (suc k))) (Wrong (suc k)))
+    go [] e true = at-end s p i e
+    go [] e false = omega arith
+    go (b ∷ m) e d = omega arith
+tell-fits s (l ∷ m ∷ ls) n p k h i e = go (isDead after) refl (ℕ-discrete (endsOne after) 1) (tell-fits s (m ∷ ls) after place (suc k) (omega (arith, h)) (past .inside) (past .left))
+  where
+    after : State
+    after = next n (says l)
+
+    place : ℕ
+    place = p + suc (length l)
+
+    past : Past s l p (m ∷ ls)
+    past = line-past s p l m ls i e
+
+    on : Told
+    on = tell after place (suc k) (m ∷ ls)
+
+    go : (d : Bool) → isDead after ≡ d → Dec (endsOne after ≡ 1) → Fits s place (suc k) on → Fits s p k (lineTold n (says l) place (suc k) on)
+    go true d q f = subst (Fits s p k) (sym (told-wrong n (says l) after refl place (suc k) on d)) (omega arith)
+    go false d (no q) f = subst (Fits s p k) (sym (told-on n (says l) after refl place (suc k) on d q)) (fits-before s p place k (omega arith) on f)
+    go false d (yes q) f =
+        let here = ends-here n (says l) d q in
+        let to : endIn after ≡ here .to = ap endIn (here .after) in
+        subst (Fits s p k) (sym (told-ended n (says l) after refl place (suc k) on d q))
+        (record {
+          longer = omega (arith, here .longer, to);
+          within = omega (arith, here .within, to);
+          mark = refl;
+          who = refl;
+          further = omega arith;
+          inside = past .inside;
+          lines = omega (arith, h);
+        })
 
 -- FROM ANY BOOKMARK OF ANY TEXT
-pub next-gets-on : (s : List ℕ) (b : Bookmark) (x : Stretch) (c : Bookmark) → nextTold s b ≡ Next x c → GetsOn s (b .place) x c
-next-gets-on s b x c e =
-    let (l, m, t) = in-order-is s b (Next x c) e (disorder-not-next x c) in
-    tell-gets-on s x c (linesOf (drop (b .place) s)) (standsAt b) (b .place) (b .lines) l m refl t
+told-fits : (s : List ℕ) (b : Bookmark) → Fits s (b .place) (b .lines) (nextTold s b)
+told-fits s b = go (inOrder (length s) b) refl
+  where
+    go : (o : Bool) → inOrder (length s) b ≡ o → Fits s (b .place) (b .lines) (cond o (tell (standsAt b) (b .place) (b .lines) (linesOf (drop (b .place) s))) Disorder)
+    go true o =
+        let w = both (leb (b .lines) (b .place)) (leb (b .place) (length s)) o in
+        tell-fits s (linesOf (drop (b .place) s)) (standsAt b) (b .place) (b .lines) (leb-true _ _ (w .0)) (leb-true _ _ (w .1)) refl
+    go false o = tt
+
+module _ (s : List ℕ) (b : Bookmark) where
+  pub next-gets-on : (x : Stretch) (c : Bookmark) → nextTold s b ≡ Next x c → GetsOn s (b .place) x c
+  next-gets-on x c e = subst (Fits s (b .place) (b .lines)) e (told-fits s b)
+
+  pub over-at-end : (c : Bookmark) → nextTold s b ≡ Over c → c .place ≡ length s
+  over-at-end c e = subst (Fits s (b .place) (b .lines)) e (told-fits s b)
+
+  pub wrong-line-past : (n : ℕ) → nextTold s b ≡ Wrong n → b .lines < n
+  wrong-line-past n e = subst (Fits s (b .place) (b .lines)) e (told-fits s b)

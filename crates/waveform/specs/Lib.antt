@@ -1,4 +1,5 @@
--- To be read in this order: the lines of a run, what lines tell, the lines as bytes, a text of them, its stretches one by one, and a run that is being written.
+-- To be read in this order: the lines of a run, what lines tell, the lines as bytes, a text of them, its stretches one by one, and a run
+-- that is being written.
 pub mod Runs
 pub mod Reading
 pub mod Bytes

@@ -56,20 +56,6 @@ feedIn Dead = 0
 abbrev pub behind : State → ℕ → ℕ → Bookmark
 behind s p k = bookmark p k (endIn s) (jobIn s) (feedIn s)
 
--- since when the stretch goes that a mark can end
-abbrev pub sinceIn : State → ℕ
-sinceIn (Heading k) = 0
-sinceIn (Opened t) = 0
-sinceIn (Jobbed t j) = 0
-sinceIn (Going t j f) = t
-sinceIn (Marked t j f) = 0
-sinceIn (Halfway t j f) = t
-sinceIn Dead = 0
-
--- the stretch that ended at a bookmark's mark
-abbrev pub endingAt : Bookmark → ℕ → Stretch
-endingAt b from = stretch from (b .at) (whoBy (b .job) (b .feed))
-
 -- where nothing is left to read
 abbrev pub endTold : State → ℕ → ℕ → Told
 endTold s p k = cond (done s) (Over (behind s p k)) (Wrong (suc k))
@@ -100,3 +86,17 @@ nextTold s b = cond (inOrder (length s) b) (tell (standsAt b) (b .place) (b .lin
 abbrev pub OneByOne : List ℕ → Bookmark → List Stretch → Told → Type 0
 OneByOne s b [] last = nextTold s b ≡ last
 OneByOne s b (x ∷ xs) last = (c : Bookmark) × (nextTold s b ≡ Next x c) × OneByOne s c xs last
+
+-- THE SAME BY THE STATES, as it is computed: since when the stretch goes that a mark can end
+abbrev pub sinceIn : State → ℕ
+sinceIn (Heading k) = 0
+sinceIn (Opened t) = 0
+sinceIn (Jobbed t j) = 0
+sinceIn (Going t j f) = t
+sinceIn (Marked t j f) = 0
+sinceIn (Halfway t j f) = t
+sinceIn Dead = 0
+
+-- the stretch that ended at a bookmark's mark
+abbrev pub endingAt : Bookmark → ℕ → Stretch
+endingAt b from = stretch from (b .at) (whoBy (b .job) (b .feed))
