@@ -16,3 +16,5 @@ pub mod Taken
 pub mod Examples
 pub mod Lengths
 pub mod Cursors
+pub mod Fitting
+pub mod Closing

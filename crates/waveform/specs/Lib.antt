@@ -8,3 +8,5 @@ pub mod Stretches
 pub mod Telling
 pub mod Writing
 pub mod Cursors
+pub mod Order
+pub mod Parts

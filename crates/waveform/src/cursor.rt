@@ -1,11 +1,14 @@
 // A run that is being written, as a plain value: which of its lines are due, and what its last step told.
 use crate::Token;
 use answers::Who;
+use feeds::Feed;
+use ticks::Instant;
 ghost use mathlib.Core.Path.{_≡_};
 ghost use Prim.Native.Nat.{_<_};
 ghost use Rattle.ticks.specs.Ticks.{lastInstant};
 ghost use Rattle.waveform.specs.Runs.{jobWire, feedWire};
 ghost use Rattle.waveform.specs.Cursors.{anyDue, oneLess, toldBy, anyValue, begun, firstDue, wrote, sinceBy, stepped};
+ghost use Rattle.waveform.specs.Order.{orderedBefore, orderedAfter, ordered, none, isNone};
 
 // How many of the lines in front are written, and which of a mark, the job's value and the feed's are due.
 #[repr(C)]
@@ -141,6 +144,113 @@ fn feed_wire(who: Who) -> u32
 }
 
 impl Cursor {
+    // The empty cursor: no run is being written.
+    pub fn none() -> Cursor
+        ensures { λ r. ⌜ r ≡ none ⌝ }
+    {
+        let due = Due {
+            heads: 0,
+            mark: false,
+            job: false,
+            feed: false,
+        };
+        Cursor {
+            ran: false,
+            due,
+            since: 0,
+            clock: 0,
+            number: 0,
+            position: 0,
+        }
+    }
+
+    pub fn is_none(self) -> bool
+        ensures { λ r. ⌜ r ≡ isNone self ⌝ }
+    {
+        if self.ran {
+            return false;
+        }
+        if self.due.heads != 0 {
+            return false;
+        }
+        if self.due.mark {
+            return false;
+        }
+        if self.due.value() {
+            return false;
+        }
+        if self.since != 0 {
+            return false;
+        }
+        if self.clock != 0 {
+            return false;
+        }
+        if self.number != 0 {
+            return false;
+        }
+        self.position == 0
+    }
+
+    // Whether its fields agree with each other before the first step.
+    fn in_order_before(self) -> bool
+        ensures { λ r. ⌜ r ≡ orderedBefore self ⌝ }
+    {
+        if self.since != self.clock {
+            return false;
+        }
+        if self.number != 0 {
+            return false;
+        }
+        if self.position != 0 {
+            return false;
+        }
+        if self.due.value() {
+            return false;
+        }
+        if Token::HEADS < self.due.heads {
+            return false;
+        }
+        if Token::HEADS <= self.due.heads {
+            return true;
+        }
+        self.due.mark
+    }
+
+    // And after one.
+    fn in_order_after(self) -> bool
+        ensures { λ r. ⌜ r ≡ orderedAfter self ⌝ }
+    {
+        if self.due.heads != Token::HEADS {
+            return false;
+        }
+        if self.clock <= self.since {
+            return false;
+        }
+        if !crate::alone(self.number, self.position) {
+            return false;
+        }
+        if Feed::most() < self.position as usize {
+            return false;
+        }
+        if self.due.value() {
+            return self.since + 1 == self.clock;
+        }
+        !self.due.mark
+    }
+
+    // Whether any cursor that is handed in is one of a run that is being written.
+    pub fn in_order(self) -> bool
+        ensures { λ r. ⌜ r ≡ ordered self ⌝ }
+    {
+        if !Instant::at(self.clock).within() {
+            return false;
+        }
+        if self.ran {
+            return self.in_order_after();
+        }
+        self.in_order_before()
+    }
+
     // The lines in front and the first mark are due.
     pub fn begin(clock: u64) -> Cursor
         ensures { λ r. ⌜ r ≡ begun clock ⌝ }

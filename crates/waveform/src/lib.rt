@@ -12,6 +12,7 @@ ghost use Rattle.waveform.specs.Texts.{isDead, endIn, startBy, endsOne, 
 ghost use Prim.Native.Nat.{_≤_};
 
 pub mod cursor;
+pub mod parts;
 pub mod put;
 pub mod stretches;
 
