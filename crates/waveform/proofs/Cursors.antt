@@ -21,7 +21,7 @@ heads-first k h =
     let e : headCount - k ≡ suc (headCount - (k + 1)) = omega (arith, h) in
     ap (λ m. headsFrom m k) e ∙ ap (λ n. token.Head k ∷ headsFrom (headCount - (k + 1)) n) (sym (add-one k))
 
-heads-past : (k : ℕ) → headCount ≤ k → headsFrom (headCount - k) k ≡ []
+pub heads-past : (k : ℕ) → headCount ≤ k → headsFrom (headCount - k) k ≡ []
 unfolding headsFrom
 heads-past k h = let e : headCount - k ≡ 0 = omega (arith, h) in ap (λ m. headsFrom m k) e
 

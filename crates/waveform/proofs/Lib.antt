@@ -18,3 +18,5 @@ pub mod Lengths
 pub mod Cursors
 pub mod Fitting
 pub mod Closing
+pub mod Orders
+pub mod SoFar

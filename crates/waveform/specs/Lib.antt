@@ -10,3 +10,4 @@ pub mod Writing
 pub mod Cursors
 pub mod Order
 pub mod Parts
+pub mod SoFar
