@@ -22,6 +22,7 @@ use Rattle.answers.specs.declared.Refusal.the-variants.{
   NoTriangles,
   ChargeTooHigh,
   NoShare,
+  NoWaveform,
 }
 use Rattle.answers.specs.declared.Verdict.{Verdict}
 use Rattle.answers.specs.declared.Verdict.the-variants.{Yes, No}
@@ -48,6 +49,7 @@ numberOf LengthOff = 16
 numberOf NoTriangles = 17
 numberOf ChargeTooHigh = 18
 numberOf NoShare = 19
+numberOf NoWaveform = 20
 
 -- 0 for yes, else the refusal's number
 abbrev pub answerOf : Verdict → ℕ

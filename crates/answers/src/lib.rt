@@ -23,6 +23,7 @@ pub enum Refusal {
     NoTriangles,
     ChargeTooHigh,
     NoShare,
+    NoWaveform,
 }
 
 pub enum Verdict {
@@ -61,6 +62,7 @@ impl Refusal {
             Refusal::NoTriangles => 17,
             Refusal::ChargeTooHigh => 18,
             Refusal::NoShare => 19,
+            Refusal::NoWaveform => 20,
         }
     }
 }
