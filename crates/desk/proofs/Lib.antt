@@ -7,3 +7,4 @@ pub mod Asking
 pub mod Undated
 pub mod Reachable
 pub mod Good
+pub mod Named

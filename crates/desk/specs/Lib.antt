@@ -4,3 +4,4 @@ pub mod Opening
 pub mod Calls
 pub mod Asking
 pub mod Undated
+pub mod Named
