@@ -49,7 +49,7 @@ wrote-all-ordered [] c h = h
 wrote-all-ordered (l ∷ ls) c h = wrote-all-ordered ls (wrote c) (wrote-ordered c h)
 
 -- the rest of a cursor
-same-run : (ls : List Token) (c : Cursor) → (wroteAll ls c .clock ≡ c .clock) × (wroteAll ls c .ran ≡ c .ran) × (wroteAll ls c .number ≡ c .number) × (wroteAll ls c .position ≡ c .position)
+pub same-run : (ls : List Token) (c : Cursor) → (wroteAll ls c .clock ≡ c .clock) × (wroteAll ls c .ran ≡ c .ran) × (wroteAll ls c .number ≡ c .number) × (wroteAll ls c .position ≡ c .position)
 unfolding wroteAll
 same-run [] c = (refl, refl, refl, refl)
 same-run (l ∷ ls) c = same-run ls (wrote c)
