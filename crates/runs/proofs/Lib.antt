@@ -1,2 +1,3 @@
 pub mod Carrying
 pub mod Answers
+pub mod Joined

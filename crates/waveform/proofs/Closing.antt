@@ -1,11 +1,12 @@
 -- The end of a run: by what fits, which lines closing writes and the cursor that it hands back.
-use mathlib.Core.Path.{_≡_, refl, sym, ap, _∙_}
+use mathlib.Core.Path.{_≡_, refl, sym, ap, subst, _∙_}
+use mathlib.Core.Logic.{_⊎_, inl, inr}
 use mathlib.Core.Bool.{Bool, true, false, cond, not, _&&_}
 use mathlib.Core.List.{List, [], _∷_, _++_, append-nil}
 use Prim.Native.Nat.{ℕ, suc, _+_, _-_, _≤_, _<_}
 use native.Mathlib.Omega.{arith}
-use borrow.Author.Tests.{eq-eqb, ne-eqb, lt-ltb}
-use lib.Dec.{eqb, ltb}
+use borrow.Author.Tests.{eq-eqb, ne-eqb, lt-ltb, leb-true, leb-false}
+use lib.Dec.{eqb, leb, ltb}
 use lib.ListN.{length, length-append}
 use Rattle.lists.specs.Lists.{allOf}
 use Rattle.lists.proofs.Tests.{both, false-not-true}
@@ -79,17 +80,24 @@ module _ (room : ℕ) (c : Cursor) (live : isNone c ≡ false) where
         ∙ whole-before room (dueLines c) (flagged (c .ran) end) (ap length (sym all-due))
         ∙ (λ i. all-due i ++ fitting (room - length (bytesOf (all-due i))) (flagged (c .ran) end))
 
+    -- all that closes it where no step was taken
+    pub still-all : c .ran ≡ false → closingLines c ≡ fit
+    still-all e = the-lines ∙ (λ i. all-due i ++ flagged (e i) end) ∙ append-nil fit
+
     -- no step was taken
     pub closes-still : c .ran ≡ false → Closes room c fit none
     unfolding fitting
     closes-still e =
         let ls : closingFitting room c ≡ fit = behind ∙ ap (λ b. fit ++ fitting (room - length (bytesOf fit)) (flagged b end)) e ∙ append-nil fit in
-        let n : closingLines c ≡ fit = the-lines ∙ (λ i. all-due i ++ flagged (e i) end) ∙ append-nil fit in
-        made ls (after-all fit c (ap length (sym n)))
+        made ls (after-all fit c (ap length (sym (still-all e))))
 
     module _ (ran : c .ran ≡ true) where
+      -- all that closes it where one was
+      pub marked-all : closingLines c ≡ fit ++ (end ∷ [])
+      marked-all = the-lines ∙ (λ i. all-due i ++ flagged (ran i) end)
+
       longer : length (closingLines c) ≡ length fit + 1
-      longer = ap length (the-lines ∙ (λ i. all-due i ++ flagged (ran i) end)) ∙ length-append fit (end ∷ [])
+      longer = ap length marked-all ∙ length-append fit (end ∷ [])
 
       -- the mark does not fit
       pub closes-unmarked : room - length (bytesOf fit) < length (asLine end) → Closes room c fit after
@@ -103,6 +111,25 @@ module _ (room : ℕ) (c : Cursor) (live : isNone c ≡ false) where
       closes-marked h =
           let ls : closingFitting room c ≡ fit ++ (end ∷ []) = behind ∙ ap (λ b. fit ++ fitting (room - length (bytesOf fit)) (flagged b end)) ran ∙ ap (fit ++_) (fits-first _ end [] h) in
           made ls (after-all (fit ++ (end ∷ [])) c (length-append fit (end ∷ []) ∙ sym longer))
+
+-- EITHER the lines that are due are written while they fit, OR all that closes the run is written
+pub closes-either : (room : ℕ) (c : Cursor) → isNone c ≡ false
+    → Closes room c (dueFitting room c) (wroteAll (dueFitting room c) c) ⊎ Closes room c (closingLines c) none
+closes-either room c live = go (anyDue (wroteAll (dueFitting room c) c .due)) refl (c .ran) refl
+  where
+    by-mark : anyDue (wroteAll (dueFitting room c) c .due) ≡ false → c .ran ≡ true → (b : Bool) → leb (length (asLine (token.Mark (c .clock)))) (room - length (bytesOf (dueFitting room c))) ≡ b
+        → Closes room c (dueFitting room c) (wroteAll (dueFitting room c) c) ⊎ Closes room c (closingLines c) none
+    by-mark d r true e =
+        inr
+        (subst (λ ls. Closes room c ls none) (sym (marked-all room c live d r))
+        (closes-marked room c live d r (leb-true (length (asLine (token.Mark (c .clock)))) (room - length (bytesOf (dueFitting room c))) e)))
+    by-mark d r false e = inl (closes-unmarked room c live d r (leb-false (length (asLine (token.Mark (c .clock)))) (room - length (bytesOf (dueFitting room c))) e))
+
+    go : (b : Bool) → anyDue (wroteAll (dueFitting room c) c .due) ≡ b → (r : Bool) → c .ran ≡ r
+        → Closes room c (dueFitting room c) (wroteAll (dueFitting room c) c) ⊎ Closes room c (closingLines c) none
+    go true d r e = inl (closes-short room c live d)
+    go false d false e = inr (subst (λ ls. Closes room c ls none) (sym (still-all room c live d e)) (closes-still room c live d e))
+    go false d true e = by-mark d e (leb (length (asLine (token.Mark (c .clock)))) (room - length (bytesOf (dueFitting room c)))) refl
 
 -- an empty cursor closes with nothing to write
 none-closed : (c : Cursor) → isNone c ≡ true → closingLines c ≡ []

@@ -1,15 +1,17 @@
 -- A text in parts: the lines that are due are those that fit and those that are due after them.
 use mathlib.Core.Path.{_≡_, refl, sym, ap, _∙_}
 use mathlib.Core.Bool.{Bool, true, false, cond}
-use mathlib.Core.List.{List, [], _∷_, _++_, append-assoc, append-nil}
+use mathlib.Core.List.{List, [], _∷_, _++_, map, append-assoc, append-nil}
 use Prim.Native.Nat.{ℕ, suc, _-_, _≤_, _<_}
 use native.Mathlib.Omega.{arith}
 use borrow.Author.Tests.{le-leb, lt-leb}
 use lib.ListN.{length, drop, length-append}
 use Rattle.lists.proofs.Tests.{leb-elim}
+use Rattle.text.specs.Fields.{newline}
 use Rattle.waveform.specs.declared.Token.{Token}
 use Rattle.waveform.specs.declared.cursor.Cursor.{Cursor}
-use Rattle.waveform.specs.Texts.{asLine}
+use Rattle.waveform.specs.Texts.{asLine, asText}
+use Rattle.waveform.specs.Bytes.{written}
 use Rattle.waveform.specs.Cursors.{anyDue, firstDue, dueLines, wrote}
 use Rattle.waveform.specs.Parts.{bytesOf, fitting, wroteAll, dueFitting}
 use Rattle.waveform.proofs.Cursors.{due-first, due-none}
@@ -34,6 +36,12 @@ bytes-append (k ∷ ks) ls = ap (asLine k ++_) (bytes-append ks ls) ∙ sym (app
 pub bytes-one : (l : Token) → bytesOf (l ∷ []) ≡ asLine l
 unfolding bytesOf
 bytes-one l = append-nil (asLine l)
+
+-- they are the text of the lines
+pub bytes-as-text : (ls : List Token) → bytesOf ls ≡ asText (map written ls)
+unfolding bytesOf asText asLine
+bytes-as-text [] = refl
+bytes-as-text (l ∷ ls) = append-assoc (written l) (newline ∷ []) (bytesOf ls) ∙ ap (λ s. written l ++ (newline ∷ s)) (bytes-as-text ls)
 
 -- the cursor once lines are written, one after another
 pub wrote-append : (ks ls : List Token) (c : Cursor) → wroteAll (ks ++ ls) c ≡ wroteAll ls (wroteAll ks c)

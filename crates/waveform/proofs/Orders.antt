@@ -17,6 +17,7 @@ use Rattle.waveform.specs.declared.cursor.Cursor.{Cursor}
 use Rattle.waveform.specs.Runs.{headCount, jobWire, feedWire}
 use Rattle.waveform.specs.Reading.{alone}
 use Rattle.waveform.specs.Cursors.{anyDue, anyValue, oneLess, owing, wrote, begun, toldBy, sinceBy, dueAfter, stepped}
+use Rattle.waveform.proofs.Written.{wires-alone}
 use Rattle.waveform.specs.Order.{orderedBefore, orderedAfter, ordered, isNone}
 
 -- A CURSOR IN ORDER, as facts: before the first step
@@ -141,12 +142,6 @@ valued : (f last : Bool) → last ≡ true → cond f last true ≡ true
 valued true last h = h
 valued false last h = refl
 
--- a tick goes to one
-one-wire : (v : Who) → alone (jobWire v) (feedWire v) ≡ true
-one-wire (Job n) = or-true false true refl refl (eqb n 0)
-one-wire (Feed p) = refl
-one-wire Idle = refl
-
 -- A LINE IS WRITTEN
 module _ (c : Cursor) where
   wrote-before : Before c → Before (wrote c)
@@ -257,7 +252,7 @@ module _ (c : Cursor) (order : ordered c ≡ true) (nothing : anyDue (c .due) �
       (record {
         heads = heads-stay (c .ran) j f ∙ no-more-heads;
         since = before-next (dueAfter c v);
-        alone = one-wire v;
+        alone = wires-alone v;
         feed = few;
         due = due-by (c .ran) j f;
       })
