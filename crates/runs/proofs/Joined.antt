@@ -76,10 +76,10 @@ read-back t ws r s e =
     (ap judged e ∙ text-judged-well t ws r ∙ ap (λ xs. Well t (t + length ws) (length xs)) (sym many), ap spread many ∙ told-names t ws r)
 
 -- WHAT A PART TELLS, behind what was told before it
-record On (t : ℕ) (ws : List Who) (ls : List Token) (p : Part) : Type 0 where
-  tells : Tells t (ws ++ p .names) (ls ++ p .lines) (p .cursor)
-  clock : p .cursor .clock ≡ clockOf (p .desk)
-  each : Each Named (p .names)
+pub record On (t : ℕ) (ws : List Who) (ls : List Token) (p : Part) : Type 0 where
+  pub tells : Tells t (ws ++ p .names) (ls ++ p .lines) (p .cursor)
+  pub clock : p .cursor .clock ≡ clockOf (p .desk)
+  pub each : Each Named (p .names)
 
 module _ {t : ℕ} {ws : List Who} {ls : List Token} where
   filled-on : (size : ℕ) (p : Part) → On t ws ls p → On t ws ls (filled size p)
@@ -116,7 +116,7 @@ module _ {t : ℕ} {ws : List Who} {ls : List Token} where
           rest (filled-on size (stepOn p (stepOf (p .desk))) (step-on p k (not-true (anyDue (p .cursor .due)) (g .0)) (is-yes (stepOf (p .desk) .verdict) (g .1))))
 
   -- a part that begins where the run stands
-  part-on : (size most : ℕ) (d : Desk) (c : Cursor) → Tells t ws ls c → c .clock ≡ clockOf d → On t ws ls (partOf size most d c)
+  pub part-on : (size most : ℕ) (d : Desk) (c : Cursor) → Tells t ws ls c → c .clock ≡ clockOf d → On t ws ls (partOf size most d c)
   unfolding partOf
   part-on size most d c k e =
       carried-on size most (filled size (part d c [] []))

@@ -1,3 +1,4 @@
 pub mod Carrying
 pub mod Answers
 pub mod Joined
+pub mod GetsOn

@@ -14,6 +14,7 @@ use Rattle.waveform.specs.Texts.{asLine, asText}
 use Rattle.waveform.specs.Bytes.{written}
 use Rattle.waveform.specs.Cursors.{anyDue, firstDue, dueLines, wrote}
 use Rattle.waveform.specs.Parts.{bytesOf, fitting, wroteAll, dueFitting}
+use Rattle.waveform.proofs.Lengths.{line-length}
 use Rattle.waveform.proofs.Cursors.{due-first, due-none}
 
 minus-zero : (n : ℕ) → n ≡ n - 0
@@ -36,6 +37,12 @@ bytes-append (k ∷ ks) ls = ap (asLine k ++_) (bytes-append ks ls) ∙ sym (app
 pub bytes-one : (l : Token) → bytesOf (l ∷ []) ≡ asLine l
 unfolding bytesOf
 bytes-one l = append-nil (asLine l)
+
+-- no bytes are no lines
+pub bytes-none : (ls : List Token) → length (bytesOf ls) ≡ 0 → ls ≡ []
+unfolding bytesOf
+bytes-none [] h = refl
+bytes-none (l ∷ ls) h = absurd (omega (arith, h, length-append (asLine l) (bytesOf ls), line-length l))
 
 -- they are the text of the lines
 pub bytes-as-text : (ls : List Token) → bytesOf ls ≡ asText (map written ls)

@@ -20,3 +20,4 @@ pub mod Fitting
 pub mod Closing
 pub mod Orders
 pub mod SoFar
+pub mod Widths
