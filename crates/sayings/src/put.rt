@@ -1,5 +1,6 @@
 // The text of an answer, put into a lent buffer.
 use crate::Said;
+use text::put::worded;
 ghost use mathlib.Core.List.{_++_};
 ghost use Prim.Native.Nat.{_+_, _≤_};
 ghost use lib.ListN.{length};
@@ -9,16 +10,6 @@ ghost use Rattle.sayings.specs.Texts.{mostText, verdictText, callText, a
 
 // No answer is longer than this.
 pub const MOST: usize = 64;
-
-// A number between two words.
-fn worded(out: &mut [u8], at: usize, front: &[u8], n: u64, back: &[u8]) -> usize
-    requires { ⌜ at + (length (now front) + (20 + length (now back))) ≤ length (now out) ⌝ }
-    ensures { λ r. ⌜ Put (now (out .entry)) (now (out .exit)) at r (now (front .entry) ++ (digits n ++ now (back .entry))) ⌝ }
-{
-    let a = text::put::text(out, at, front);
-    let b = text::put::number(out, a, n);
-    text::put::text(out, b, back)
-}
 
 // A yes in its word, or `no` and the number.
 fn verdict(out: &mut [u8], at: usize, yes: &[u8], refusal: u32) -> usize

@@ -1,7 +1,7 @@
 // How text goes into a lent buffer: each function puts its text at a place and hands back the place after it.
 ghost use mathlib.Core.Path.{_≡_};
 ghost use Prim.Native.Nat.{_+_, _≤_, _<_};
-ghost use mathlib.Core.List.{[], _∷_};
+ghost use mathlib.Core.List.{[], _∷_, _++_};
 ghost use lib.ListN.{length};
 ghost use Rattle.text.specs.Put.{Put};
 ghost use Rattle.text.specs.Numbers.{Base, numeral, digits, bits};
@@ -48,6 +48,16 @@ pub fn number(out: &mut [u8], at: usize, n: u64) -> usize
     ensures { λ r. ⌜ Put (now (out .entry)) (now (out .exit)) at r (digits n) ⌝ }
 {
     number_in(out, at, n, 10)
+}
+
+// A number between two words.
+pub fn worded(out: &mut [u8], at: usize, front: &[u8], n: u64, back: &[u8]) -> usize
+    requires { ⌜ at + (length (now front) + (20 + length (now back))) ≤ length (now out) ⌝ }
+    ensures { λ r. ⌜ Put (now (out .entry)) (now (out .exit)) at r (now (front .entry) ++ (digits n ++ now (back .entry))) ⌝ }
+{
+    let a = text(out, at, front);
+    let b = number(out, a, n);
+    text(out, b, back)
 }
 
 // In binary.
