@@ -9,7 +9,7 @@ use Rattle.showing.specs.declared.Shown.{Shown}
 
 -- no line is longer than this
 abbrev pub mostLine : ℕ
-mostLine = 80
+mostLine = 68
 
 -- whom a stretch went to
 unfoldable pub whoText : Who → List ℕ

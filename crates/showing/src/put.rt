@@ -9,7 +9,7 @@ ghost use Rattle.text.specs.Put.{Put};
 ghost use Rattle.showing.specs.Texts.{mostLine, whoText, stretchText, lineOf};
 
 // No line is longer than this.
-pub const MOST: usize = 80;
+pub const MOST: usize = 68;
 
 fn who(out: &mut [u8], at: usize, who: Who) -> usize
     requires { ⌜ at + 26 ≤ length (now out) ⌝ }
