@@ -15,7 +15,7 @@ use Rattle.desk.specs.declared.Desk.{Desk}
 use Rattle.waveform.specs.declared.cursor.Cursor.{Cursor}
 use Rattle.waveform.specs.Parts.{bytesOf}
 use Rattle.runs.specs.declared.Went.{Went}
-use Rattle.runs.specs.Parts.{Part, partOf, stuck, goAnswer, refusedWent, wentOf, wentBytes, wentNames}
+use Rattle.runs.specs.Parts.{Part, partOf, stuck, goAnswer, refusedWent, wentOf, wentBytes}
 
 -- a part that is stuck wrote nothing
 pub stuck-nothing : (p : Part) → stuck p ≡ true → bytesOf (p .lines) ≡ []

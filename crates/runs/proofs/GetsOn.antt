@@ -1,35 +1,32 @@
 -- A buffer of 36 bytes always gets on: neither going on nor closing is refused for want of room.
 use mathlib.Core.Path.{_≡_, refl, sym, ap, subst, _∙_}
 use mathlib.Core.Bool.{Bool, true, false, cond, not, _&&_, _||_}
-use mathlib.Core.List.{List, [], _∷_, _++_, append-nil}
+use mathlib.Core.List.{List, [], _∷_, _++_}
 use Prim.Native.Nat.{ℕ, zero, suc, _+_, _-_, _≤_, _<_}
 use native.Mathlib.Omega.{arith}
 use borrow.Author.Tests.{eqb-true, eq-eqb, leb-true, leb-false}
 use lib.Dec.{eqb, leb}
 use lib.ListN.{length, length-append}
 use Rattle.lists.specs.Lists.{Each}
-use Rattle.lists.proofs.Tests.{both, both-made, leb-elim, false-not-true}
+use Rattle.lists.proofs.Tests.{both-made}
 use Rattle.answers.specs.declared.Who.{Who}
-use Rattle.answers.specs.declared.Who.the-variants.{Idle}
 use Rattle.answers.specs.declared.Verdict.the-variants.{Yes}
-use Rattle.answers.specs.Answers.{firstOf}
 use Rattle.answers.proofs.Answers.{goes-on, no-line}
 use Rattle.desk.specs.declared.Desk.{Desk}
 use Rattle.desk.specs.State.{inOrder}
 use Rattle.desk.specs.Calls.{stepOf}
-use Rattle.waveform.specs.declared.Token.{Token}
 use Rattle.waveform.specs.declared.cursor.Cursor.{Cursor}
 use Rattle.waveform.specs.Runs.{jobWire, mostNumber}
 use Rattle.waveform.specs.Texts.{asLine}
 use Rattle.waveform.specs.Cursors.{anyDue, firstDue, wrote}
-use Rattle.waveform.specs.Order.{ordered, isNone}
-use Rattle.waveform.specs.Parts.{bytesOf, wroteAll, dueFitting, closeStops, closedOf}
-use Rattle.waveform.specs.SoFar.{lastOf, Tells}
+use Rattle.waveform.specs.Order.{isNone}
+use Rattle.waveform.specs.Parts.{bytesOf, wroteAll, dueFitting, closedOf}
+use Rattle.waveform.specs.SoFar.{lastOf}
 use Rattle.waveform.proofs.Fitting.{bytes-append, bytes-none, due-fits}
 use Rattle.waveform.proofs.Widths.{longest, first-narrow, closing-fits}
 use Rattle.runs.specs.Parts.{clockOf, Part, part, roomIn, filled, stepOn, goesOn, carried, partOf, orderedAt, stuck, goAnswer}
 use Rattle.runs.specs.Written.{Written}
-use Rattle.runs.proofs.Joined.{On, part-on, Live}
+use Rattle.runs.proofs.Joined.{part-on, Live}
 
 -- a job's name in 32 bits, as every call has it
 abbrev pub Narrow : Who → Type 0

@@ -1,8 +1,8 @@
 -- Over any calls the parts that are written, joined, are the text of the names that the steps gave.
 use mathlib.Core.Path.{_≡_, refl, sym, ap, subst, _∙_}
 use mathlib.Core.Logic.{_⊎_, inl, inr}
-use mathlib.Core.Bool.{Bool, true, false, cond, not, _&&_, _||_}
-use mathlib.Core.List.{List, [], _∷_, _++_, map, append-assoc, append-nil}
+use mathlib.Core.Bool.{Bool, true, false, cond, not}
+use mathlib.Core.List.{List, [], _∷_, _++_, append-assoc, append-nil}
 use Prim.Native.Nat.{ℕ, zero, suc, _+_, _-_, _≤_, _<_}
 use native.Mathlib.Omega.{arith}
 use borrow.Author.Tests.{not-true, not-false, eqb-true, leb-true}
@@ -18,12 +18,11 @@ use Rattle.answers.specs.declared.Who.the-variants.{Job, Feed, Idle}
 use Rattle.answers.specs.declared.Verdict.{Verdict}
 use Rattle.answers.specs.declared.Verdict.the-variants.{Yes, No}
 use Rattle.answers.specs.Answers.{firstOf, isYes, onYes}
-use Rattle.answers.proofs.Answers.{is-yes, yes-first, yes-is-not-no}
+use Rattle.answers.proofs.Answers.{is-yes, yes-first}
 use Rattle.desk.specs.declared.Desk.{Desk}
-use Rattle.desk.specs.declared.Stepped.{Stepped}
 use Rattle.ledger.specs.State as ledger
 use Rattle.desk.specs.State.{inOrder}
-use Rattle.desk.specs.Calls.{disorder, stepOf}
+use Rattle.desk.specs.Calls.{stepOf}
 use Rattle.desk.specs.Named.{Named}
 use Rattle.desk.proofs.Named.{step-clock, step-in-time, step-names}
 use Rattle.waveform.specs.declared.Token.{Token}

@@ -61,3 +61,16 @@ put-after {d} {e} {f} {at} {m} {to} {x} {y} p q =
 -- what the buffer then holds is settled, and so is the next place
 pub put-settled : {d e f : List ℕ} {at m n : ℕ} {text : List ℕ} → Put d e at m text → Put d f at n text → (e ≡ f) × (m ≡ n)
 put-settled p q = (p .bytes ∙ sym (q .bytes), p .next ∙ sym (q .next))
+
+-- a text at the front: it, and then what was there; it goes as far as it is long
+pub put-in-front : {d e : List ℕ} {to : ℕ} {s t : List ℕ} → Put d e 0 to s → s ≡ t → e ≡ t ++ drop (length t) d
+put-in-front {d} {e} {to} {s} {t} p h =
+    let z : 0 + length s ≡ length s = omega arith in
+    p .bytes ∙ ap (λ n. s ++ drop n d) z ∙ (λ i. h i ++ drop (length (h i)) d)
+
+pub put-in-front-next : {d e : List ℕ} {to : ℕ} {s : List ℕ} → Put d e 0 to s → to ≡ length s
+put-in-front-next p = omega (arith, p .next)
+
+-- nothing at the front
+pub front-untouched : {d : List ℕ} {t : List ℕ} → [] ≡ t → d ≡ t ++ drop (length t) d
+front-untouched {d} {t} h = λ i. h i ++ drop (length (h i)) d

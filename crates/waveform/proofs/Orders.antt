@@ -1,17 +1,14 @@
 -- A cursor in order stays so: when a run begins, with each line that is written, and with each step that is taken with nothing due.
 use mathlib.Core.Path.{_≡_, refl, sym, ap, subst, _∙_}
-use mathlib.Core.Bool.{Bool, true, false, cond, not, _&&_, _||_}
-use mathlib.Core.List.{[], _∷_}
-use Prim.Native.Nat.{ℕ, suc, _+_, _≤_, _<_}
+use mathlib.Core.Bool.{Bool, true, false, cond, not, _||_}
+use Prim.Native.Nat.{ℕ, _+_, _≤_, _<_}
 use native.Mathlib.Omega.{arith}
-use borrow.Author.Tests.{le-leb, lt-leb, leb-true, lt-ltb, ltb-true, ltb-false, le-ltb, eq-eqb, eqb-true, not-true, not-false}
+use borrow.Author.Tests.{le-leb, lt-leb, leb-true, lt-ltb, ltb-true, ltb-false, le-ltb, eq-eqb, eqb-true, not-true}
 use lib.Dec.{leb, ltb, eqb}
-use Rattle.lists.specs.Lists.{allOf, Each}
 use Rattle.lists.proofs.Tests.{all-of, all-of-made, false-not-true}
 use Rattle.ticks.specs.Ticks.{lastInstant}
 use Rattle.feeds.specs.Feeds.{mostFeeds}
 use Rattle.answers.specs.declared.Who.{Who}
-use Rattle.answers.specs.declared.Who.the-variants.{Job, Feed, Idle}
 use Rattle.waveform.specs.declared.cursor.Due.{Due}
 use Rattle.waveform.specs.declared.cursor.Cursor.{Cursor}
 use Rattle.waveform.specs.Runs.{headCount, jobWire, feedWire}

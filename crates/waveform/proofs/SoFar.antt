@@ -1,5 +1,5 @@
 -- The cursor of a run that is being written: how each line that is written, each step and the end carry on what is told of it.
-use mathlib.Core.Path.{_≡_, refl, sym, ap, subst, _∙_}
+use mathlib.Core.Path.{_≡_, refl, sym, ap, _∙_}
 use mathlib.Core.Bool.{Bool, true, false, cond, not}
 use mathlib.Core.List.{List, [], _∷_, _++_, append-assoc, append-nil}
 use Prim.Native.Nat.{ℕ, suc, _+_, _-_, _≤_, _<_}
@@ -14,9 +14,9 @@ use Rattle.waveform.specs.declared.Token.the-variants as token
 use Rattle.waveform.specs.declared.cursor.Cursor.{Cursor}
 use Rattle.waveform.specs.Runs.{headCount, headsFrom, jobWire, feedWire, changed, changedBy, told}
 use Rattle.waveform.specs.Writing.{toldSoFar, bodySoFar, lastMark, stepLines}
-use Rattle.waveform.specs.Cursors.{flagged, dueLines, anyDue, anyValue, firstDue, wrote, begun, toldBy, sinceBy, stepped}
+use Rattle.waveform.specs.Cursors.{flagged, dueLines, anyDue, anyValue, wrote, begun, toldBy, sinceBy, stepped}
 use Rattle.waveform.specs.Order.{ordered, isNone}
-use Rattle.waveform.specs.Parts.{fitting, wroteAll, dueFitting, closingLines}
+use Rattle.waveform.specs.Parts.{wroteAll, dueFitting, closingLines}
 use Rattle.waveform.specs.SoFar.{lastOf, anyTick, Tells}
 use Rattle.waveform.proofs.Writing.{told-closed, told-step}
 use Rattle.waveform.proofs.Cursors.{heads-past, due-none}

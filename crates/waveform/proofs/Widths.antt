@@ -15,12 +15,12 @@ use Rattle.waveform.specs.declared.Token.{Token}
 use Rattle.waveform.specs.declared.Token.the-variants as token
 use Rattle.waveform.specs.declared.cursor.Cursor.{Cursor}
 use Rattle.waveform.specs.Runs.{headCount, mostNumber}
-use Rattle.waveform.specs.Bytes.{bang, quote, headLines, valueLine, written}
+use Rattle.waveform.specs.Bytes.{bang, quote, headLines}
 use Rattle.waveform.specs.Texts.{asLine}
 use Rattle.waveform.specs.Cursors.{flagged, dueLines, anyDue, firstDue}
 use Rattle.waveform.specs.Order.{ordered, isNone}
 use Rattle.waveform.specs.Parts.{fitting, stuck, closingLines, closingFitting}
-use Rattle.waveform.proofs.Lengths.{line-length, value-length, heads-end}
+use Rattle.waveform.proofs.Lengths.{line-length, value-length}
 use Rattle.waveform.proofs.Cursors.{due-first, due-none}
 use Rattle.waveform.proofs.Fitting.{fits-first}
 use Rattle.waveform.proofs.Orders.{ordered-clock, ordered-live, ordered-before, ordered-after}

@@ -3,7 +3,6 @@ use mathlib.Core.Path.{_≡_, sym, ap, _∙_}
 use mathlib.Core.Bool.{not}
 use mathlib.Core.List.{[], _∷_}
 use borrow.Author.Needs.{needs}
-use borrow.Author.Tests.{not-true, not-false}
 use Rattle.answers.specs.declared.Verdict.the-variants.{Yes, No}
 use Rattle.answers.specs.declared.Refusal.the-variants.{NotInOrder}
 use Rattle.answers.specs.Answers.{firstOf, onYes}
@@ -11,7 +10,6 @@ use Rattle.answers.proofs.Answers.{stops, goes-on, no-line}
 use Rattle.desk.specs.Calls.{disorder}
 use Rattle.waveform.specs.Cursors.{begun}
 use Rattle.waveform.specs.Order.{none}
-use Rattle.runs.specs.declared.Begun.{Begun}
 use Rattle.runs.specs.Parts.{clockOf, begunOf}
 use Rattle.runs.proofs.begin.Statement.{statement}
 use Rattle.runs.proofs.begin.Tie as tie

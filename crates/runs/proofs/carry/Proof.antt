@@ -1,25 +1,15 @@
 -- `runs::carry` meets its contract: before each turn so many steps are taken and their lines written, and the others are left.
-use mathlib.Core.Path.{_≡_, refl, sym, ap, subst, _∙_}
-use mathlib.Core.Bool.{Bool, true, false}
-use mathlib.Core.List.{List, [], _++_}
-use Prim.Native.Nat.{ℕ, _+_, _-_, _≤_}
+use mathlib.Core.Path.{_≡_, sym, ap, _∙_}
+use mathlib.Core.Bool.{true}
+use Prim.Native.Nat.{_-_}
 use native.Mathlib.Omega.{arith}
 use borrow.Author.Needs.{needs}
 use borrow.Author.Tests.{not-true, not-false}
-use lib.ListN.{length}
 use denote.Ref.{now}
-use Rattle.text.specs.Put.{Put}
-use Rattle.text.proofs.Texts.{put-after, put-length}
+use Rattle.text.proofs.Texts.{put-length}
 use Rattle.answers.specs.Answers.{isYes}
 use Rattle.answers.proofs.Answers.{is-yes}
-use Rattle.desk.specs.declared.Desk.{Desk}
-use Rattle.desk.specs.Calls.{stepOf}
 use Rattle.desk.proofs.Named.{step-in-time}
-use Rattle.waveform.specs.declared.Token.{Token}
-use Rattle.waveform.specs.declared.cursor.Cursor.{Cursor}
-use Rattle.waveform.specs.Cursors.{anyDue}
-use Rattle.waveform.specs.Parts.{bytesOf, wroteAll, dueFitting}
-use Rattle.waveform.proofs.Fitting.{bytes-append}
 use Rattle.waveform.proofs.SoFar.{same-run}
 use Rattle.runs.specs.Parts.{clockOf}
 use Rattle.runs.proofs.Carrying.{due-stops, refusal-stops, Going, nothing-done, one-more, part-done, part-full, finished}

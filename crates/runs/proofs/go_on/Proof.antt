@@ -1,48 +1,28 @@
 -- `runs::go_on` meets its contract: line 13 twice, then the part, and line 11 where it wrote nothing and a line is due.
 use mathlib.Core.Path.{_≡_, sym, ap, _∙_}
-use mathlib.Core.Bool.{true, false, not, _&&_}
-use mathlib.Core.List.{List, [], _∷_, _++_}
-use Prim.Native.Nat.{ℕ, _+_}
-use native.Mathlib.Omega.{arith}
+use mathlib.Core.Bool.{false, not, _&&_}
 use borrow.Author.Needs.{needs}
-use borrow.Author.Tests.{not-true, not-false, eqb-true, ne-eqb, eq-eqb}
+use borrow.Author.Tests.{not-false, eqb-true}
 use lib.Dec.{eqb}
-use lib.ListN.{length, drop}
+use lib.ListN.{length}
 use denote.Ref.{now}
 use Rattle.lists.proofs.Tests.{both}
-use Rattle.text.specs.Put.{Put}
-use Rattle.text.proofs.Texts.{put-length}
-use Rattle.answers.specs.declared.Verdict.the-variants.{Yes, No}
+use Rattle.text.proofs.Texts.{put-length, put-in-front, put-in-front-next, front-untouched}
+use Rattle.answers.specs.declared.Verdict.the-variants.{Yes}
 use Rattle.answers.specs.declared.Refusal.the-variants.{ShortBuffer, NotInOrder}
 use Rattle.answers.proofs.Answers.{stops, goes-on, no-line}
-use Rattle.desk.specs.declared.Desk.{Desk}
 use Rattle.desk.specs.State.{inOrder}
-use Rattle.waveform.specs.declared.cursor.Cursor.{Cursor}
 use Rattle.waveform.specs.Cursors.{anyDue}
-use Rattle.waveform.specs.Parts.{bytesOf}
-use Rattle.runs.specs.Parts.{clockOf, orderedAt, partOf, Carried, stuck, refusedWent}
+use Rattle.runs.specs.Parts.{clockOf, orderedAt, partOf, stuck}
 use Rattle.runs.proofs.Answers.{stuck-nothing, went-no, went-yes}
 use Rattle.runs.proofs.go_on.Statement.{statement}
 use Rattle.runs.proofs.go_on.Tie as tie
-
--- a text put at the front of a buffer, and nothing put
-front : {d e : List ℕ} {to : ℕ} {s t : List ℕ} → Put d e 0 to s → s ≡ t → e ≡ t ++ drop (length t) d
-front {d} {e} {to} {s} {t} p h =
-    let z : 0 + length s ≡ length s = omega arith in
-    p .bytes ∙ ap (λ n. s ++ drop n d) z ∙ (λ i. h i ++ drop (length (h i)) d)
-
-untouched : {d : List ℕ} {t : List ℕ} → [] ≡ t → d ≡ t ++ drop (length t) d
-untouched {d} {t} h = λ i. h i ++ drop (length (h i)) d
-
--- how far it goes
-far : {d e : List ℕ} {to : ℕ} {s : List ℕ} → Put d e 0 to s → to ≡ length s
-far p = omega (arith, p .next)
 
 returns : tie.Need-returns
 returns c =
     let a = c .before .before .before .before .args in
     let k = went-no (length (now (a .out))) (a .most) (a .desk) (a .cursor) NotInOrder (stops _ _ (ap not (sym (c .before .before .in-order .ensures)) ∙ c .before .if1 .taken)) in
-    (c .refused .ensures ∙ k .0, untouched (k .1))
+    (c .refused .ensures ∙ k .0, front-untouched (k .1))
 
 -- the desk is in order
 fine : (c : tie.Else1) → not (inOrder (c .before .before .before .args .desk)) ≡ false
@@ -52,7 +32,7 @@ returns-2 : tie.Need-returns-2
 returns-2 c =
     let a = c .before .before .before .before .before .before .args in
     let k = went-no (length (now (a .out))) (a .most) (a .desk) (a .cursor) NotInOrder (goes-on _ _ _ (fine (c .before .before .before)) (stops _ _ (ap not (sym (c .before .before .ordered-at .ensures)) ∙ c .before .if2 .taken))) in
-    (c .refused2 .ensures ∙ k .0, untouched (k .1))
+    (c .refused2 .ensures ∙ k .0, front-untouched (k .1))
 
 -- and so is the cursor, at its clock
 there : (c : tie.Else2) → not (orderedAt (clockOf (c .before .before .before .before .before .args .desk)) (c .before .before .before .before .before .args .cursor)) ≡ false
@@ -70,14 +50,14 @@ short : (c : tie.After-is-stuck) → stuck (partOf (length (now (c .before .befo
 unfolding stuck
 short c =
     let k = c .before .before .before .before .carry .ensures in
-    sym (c .is-stuck .ensures ∙ (λ i. eqb (far (k .put) i) 0 && anyDue (k .cursor i .due)))
+    sym (c .is-stuck .ensures ∙ (λ i. eqb (put-in-front-next (k .put) i) 0 && anyDue (k .cursor i .due)))
 
 returns-3 : tie.Need-returns-3
 returns-3 c =
     let a = c .before .before .before .before .before .before .before .before .before .before .before .before .before .args in
     let stop = short (c .before .before) ∙ c .before .if3 .taken in
     let k = went-no (length (now (a .out))) (a .most) (a .desk) (a .cursor) ShortBuffer (goes-on _ _ _ (fine (c .before .before .before .before .before .before .before .before .before .before)) (goes-on _ _ _ (there (c .before .before .before .before .before .before .before .before)) (stops _ _ stop))) in
-    (c .refused3 .ensures ∙ k .0, front (c .before .before .before .before .before .before .carry .ensures .put) (stuck-nothing _ stop ∙ k .1))
+    (c .refused3 .ensures ∙ k .0, put-in-front (c .before .before .before .before .before .before .carry .ensures .put) (stuck-nothing _ stop ∙ k .1))
 
 same-length-2 : tie.Need-same-length-2
 same-length-2 c = put-length (c .before .before .before .before .before .before .carry .ensures .put)
@@ -87,7 +67,7 @@ returns-4 c =
     let a = c .before .before .before .before .before .before .before .before .before .before .before .before .before .args in
     let p = c .before .before .before .before .before .before .carry .ensures in
     let k = went-yes (length (now (a .out))) (a .most) (a .desk) (a .cursor) (goes-on _ _ _ (fine (c .before .before .before .before .before .before .before .before .before .before)) (goes-on _ _ _ (there (c .before .before .before .before .before .before .before .before)) (goes-on _ _ _ (short (c .before .before) ∙ c .before .if3 .left) no-line))) in
-    ((λ i. record { desk = p .desk i; cursor = p .cursor i; verdict = Yes; bytes = far (p .put) i; steps = p .steps i }) ∙ k .0, front (p .put) (k .1))
+    ((λ i. record { desk = p .desk i; cursor = p .cursor i; verdict = Yes; bytes = put-in-front-next (p .put) i; steps = p .steps i }) ∙ k .0, put-in-front (p .put) (k .1))
 
 pub go-on-spec : {M : Type 1} → statement M
 go-on-spec =

@@ -2,7 +2,7 @@
 use mathlib.Core.Path.{sym, ap, _∙_}
 use mathlib.Core.Bool.{_||_}
 use borrow.Author.Needs.{needs}
-use Rattle.waveform.specs.Order.{ordered, isNone}
+use Rattle.waveform.specs.Order.{ordered}
 use Rattle.waveform.proofs.parts.can_close.Statement.{statement}
 use Rattle.waveform.proofs.parts.can_close.Tie as tie
 
