@@ -9,6 +9,8 @@ ghost use Rattle.desk.specs.Opening.{openedOf, openedSharedOf};
 ghost use Rattle.desk.specs.Calls.{stepOf, endOf, restOf, countedOf, listedOf, runnerOf};
 ghost use Rattle.desk_c.specs.Flat.{flatAnswer, flatStep, flatCount, flatPart, flatWhy, AskedFlat, AskedMeshFlat, AskedUndatedFlat, WhyFlat};
 
+pub mod wave;
+
 // The state that a call hands back, and 0 for yes or the refusal's number.
 #[repr(C)]
 pub struct Answer {
