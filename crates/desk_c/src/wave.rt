@@ -124,7 +124,7 @@ fn flat_cursor(cursor: waveform::cursor::Cursor) -> Cursor
     }
 }
 
-// A refused cursor comes back word for word: what it has for yes too.
+// A refused cursor comes back word for word, whatever its flags have for yes.
 fn cursor_after(verdict: Verdict, after: waveform::cursor::Cursor, given: Cursor) -> Cursor
     ensures { λ r. ⌜ r ≡ onYes verdict (flatCursor after) given ⌝ }
 {
@@ -164,9 +164,9 @@ fn flat_closed(given: Cursor, closed: waveform::parts::Closed) -> Closed
     ensures { λ r. ⌜ r ≡ flatClosed given closed ⌝ }
 {
     let verdict = closed.verdict;
-    let after = closed.cursor;
+    let left = closed.cursor;
     Closed {
-        cursor: cursor_after(verdict, after, given),
+        cursor: cursor_after(verdict, left, given),
         refusal: verdict.answer(),
         bytes: closed.bytes,
     }
