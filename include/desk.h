@@ -5,7 +5,7 @@
  * Lists are lent for the length of the call; a list of length 0 still needs a place that is not null.
  *
  * Nothing is kept between calls and there is no global state: any number of threads may call at once, each with its own
- * state. A call takes 12 to 30 KB of stack, the states that go in and come back by value among it, and no other memory.
+ * state. A call takes up to 33 KB of stack, the states that go in and come back by value among it, and no other memory.
  *
  * Beside each call stand its refusals, in the order in which they are looked for: the first that holds is given. */
 #ifndef DESK_H
