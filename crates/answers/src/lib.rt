@@ -1,10 +1,12 @@
 // What calls answer with: yes, or why not, one case for each number of the rules; and whom a tick goes to.
 // It must not know the calls.
+#![tactic(auto)]
+
 ghost use Rattle.std.specs.Prelude.{◌≡◌};
 ghost use Rattle.answers.specs.Answers.{number_of, answer_of, kind_of, name_of, is_yes};
 
 // Why a call is refused.
-#[derive(Drop)]
+#[derive(Clone, Copy)]
 pub enum Refusal {
     NumberZero,
     Outside,
@@ -27,14 +29,14 @@ pub enum Refusal {
     NoWaveform,
 }
 
-#[derive(Drop)]
+#[derive(Clone, Copy)]
 pub enum Verdict {
     Yes,
     No(Refusal),
 }
 
 // Whom a tick goes to: a job by its number, a feed by its position, or nobody.
-#[derive(Drop)]
+#[derive(Clone, Copy)]
 pub enum Who {
     Job(u32),
     Feed(u32),

@@ -1,5 +1,7 @@
 // The export desk: the state of a box and every call on it, each with its refusals in the order of the rules.
 // It must not know text or files.
+#![tactic(auto)]
+
 ghost use Rattle.std.specs.Prelude.{◌≡◌, true, ◌≤◌, ◌<◌, ◌^◌, length};
 ghost use Rattle.ticks.specs.Ticks.{last_instant, ticks};
 ghost use Rattle.jobs.specs.Jobs.{most_jobs};
@@ -24,7 +26,7 @@ use ticks::{Instant, Length};
 // The state of a box, and what the calls keep beside it: the share for exports with no date, and the deadline of the last one
 // that was taken, 0 before the first.
 #[repr(C)]
-#[derive(Drop)]
+#[derive(Clone, Copy)]
 pub struct Desk {
     pub ledger: Ledger,
     pub share: Share,
@@ -32,7 +34,7 @@ pub struct Desk {
 }
 
 // The state that a call hands back, and its answer.
-#[derive(Drop)]
+#[derive(Clone, Copy)]
 pub struct Answer {
     pub desk: Desk,
     pub verdict: Verdict,
@@ -40,7 +42,7 @@ pub struct Answer {
 
 // The state that a step hands back and its answer; whom it named, and what that piece of work still owes. Nobody and
 // nothing where the step is refused.
-#[derive(Drop)]
+#[derive(Clone, Copy)]
 pub struct Stepped {
     pub desk: Desk,
     pub verdict: Verdict,
@@ -49,14 +51,14 @@ pub struct Stepped {
 }
 
 // A request as the lines leave it: the answer, and the job that is asked for, none where it is refused.
-#[derive(Drop)]
+#[derive(Clone, Copy)]
 pub struct Request {
     pub verdict: Verdict,
     pub job: Job,
 }
 
 // The answer of the list call, and how many jobs it wrote.
-#[derive(Drop)]
+#[derive(Clone, Copy)]
 pub struct Counted {
     pub verdict: Verdict,
     pub count: usize,

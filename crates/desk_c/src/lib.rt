@@ -1,5 +1,7 @@
 // Every call of the desk for C and Rust: states and answers by value, each refusal as its number.
 // It must not know how any call is answered.
+#![tactic(auto)]
+
 ghost use Rattle.std.specs.Prelude.{◌≡◌, length};
 ghost use Rattle.listing.specs.Labels.{label_of};
 ghost use Rattle.desk.specs.Opening.{opened_of, opened_shared_of};
@@ -13,7 +15,7 @@ pub mod wave;
 
 // The state that a call hands back, and 0 for yes or the refusal's number.
 #[repr(C)]
-#[derive(Drop)]
+#[derive(Clone, Copy)]
 pub struct Answer {
     pub desk: Desk,
     pub refusal: u32,
@@ -22,7 +24,7 @@ pub struct Answer {
 // The state that a step hands back and the refusal; whom it named, kind 0 idle, 1 a job by its number, 2 a feed by its
 // position; and what that piece of work still owes. All 0 where the step is refused.
 #[repr(C)]
-#[derive(Drop)]
+#[derive(Clone, Copy)]
 pub struct Stepped {
     pub desk: Desk,
     pub refusal: u32,
@@ -35,7 +37,7 @@ pub struct Stepped {
 // live jobs, the feeds and the new job owe by then, and the margin, below zero; for 0 the earliest instant that has the
 // smallest margin, and that margin. All other values 0.
 #[repr(C)]
-#[derive(Drop)]
+#[derive(Clone, Copy)]
 pub struct Reason {
     pub refusal: u32,
     pub at: u64,
@@ -47,7 +49,7 @@ pub struct Reason {
 
 // How many jobs the list call wrote, 0 where it is refused.
 #[repr(C)]
-#[derive(Drop)]
+#[derive(Clone, Copy)]
 pub struct Listed {
     pub refusal: u32,
     pub count: u32,
@@ -55,7 +57,7 @@ pub struct Listed {
 
 // Where a label stands: list 1 the job labels, 2 the feed labels; list 1, from 0, size 0 where there is none.
 #[repr(C)]
-#[derive(Drop)]
+#[derive(Clone, Copy)]
 pub struct Label {
     pub list: u32,
     pub from: usize,

@@ -17,7 +17,7 @@ use waveform::stretches::{Bookmark, Told};
 // A run that is being written: since when the same one runs, the clock, the values of the two wires and how many of the lines in
 // front are written; and the flags, 0 for no and anything else for yes: whether a step was taken, and what is due.
 #[repr(C)]
-#[derive(Drop)]
+#[derive(Clone, Copy)]
 pub struct Cursor {
     pub since: u64,
     pub clock: u64,
@@ -32,7 +32,7 @@ pub struct Cursor {
 
 // The cursor of a run that begins, empty where that is refused.
 #[repr(C)]
-#[derive(Drop)]
+#[derive(Clone, Copy)]
 pub struct Begun {
     pub cursor: Cursor,
     pub refusal: u32,
@@ -40,7 +40,7 @@ pub struct Begun {
 
 // The state and the cursor after so many steps, and how many bytes were written; as given where it is refused.
 #[repr(C)]
-#[derive(Drop)]
+#[derive(Clone, Copy)]
 pub struct Waved {
     pub desk: Desk,
     pub cursor: Cursor,
@@ -51,7 +51,7 @@ pub struct Waved {
 
 // The cursor after so many bytes, as given where it is refused.
 #[repr(C)]
-#[derive(Drop)]
+#[derive(Clone, Copy)]
 pub struct Closed {
     pub cursor: Cursor,
     pub refusal: u32,
@@ -60,7 +60,7 @@ pub struct Closed {
 
 // The first line that no waveform has there; or the run's start and end, and how many stretches it has. All else 0.
 #[repr(C)]
-#[derive(Drop)]
+#[derive(Clone, Copy)]
 pub struct Read {
     pub refusal: u32,
     pub line: usize,
@@ -72,7 +72,7 @@ pub struct Read {
 // Where the reading stands, and the stretch that it has come over; no ticks where the text ends. Refused: where it stood, the
 // line for 20, and all else 0.
 #[repr(C)]
-#[derive(Drop)]
+#[derive(Clone, Copy)]
 pub struct Stretch {
     pub reading: Bookmark,
     pub refusal: u32,

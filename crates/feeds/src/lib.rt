@@ -2,6 +2,8 @@
 // list of numbers is read as feeds (lines 12, 8, 2, 9 and 10 of the opening), the round, what stretches of ticks up to it want,
 // and the current pieces: what comes at an instant, what gives way, what is served, what is rested.
 // It must not know jobs, nor who is served.
+#![tactic(auto)]
+
 ghost use Rattle.std.specs.Prelude.{◌≡◌, true, [], map, ◌+◌, ◌*◌, ◌-◌, ◌≤◌, ◌<◌, ◌^◌, length, drop, get_or, set};
 ghost use Rattle.ticks.specs.Ticks.{most_round, most_charge, ticks};
 ghost use Rattle.lists.specs.Lists.{every, Each};
@@ -19,7 +21,7 @@ use ticks::{Instant, Length};
 
 // A printer's feed: its plan, and what the piece that came last still wants.
 #[repr(C)]
-#[derive(Drop)]
+#[derive(Clone, Copy)]
 pub struct Feed {
     pub plan: Plan,
     pub owes: Length,
@@ -27,7 +29,7 @@ pub struct Feed {
 
 // The feeds stand at the front, in list order; the places after them are all zero.
 #[repr(C)]
-#[derive(Drop)]
+#[derive(Clone, Copy)]
 pub struct Feeds {
     pub count: usize,
     pub feeds: [Feed; Feed::MOST],

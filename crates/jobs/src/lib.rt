@@ -2,6 +2,8 @@
 // screen: what all live jobs due no later still owe together. Look-up by number, taking one more, taking one out, serving
 // one, and the part of a state in order that concerns jobs.
 // It must not know feeds, nor what fits, nor who is served.
+#![tactic(auto)]
+
 ghost use Rattle.std.specs.Prelude.{◌≡◌, true, not, [], ◌∷◌, ◌++◌, ℕ, ◌+◌, ◌*◌, ◌≤◌, ◌<◌, ◌^◌, get_or, take, drop, map};
 ghost use Rattle.lists.specs.Lists.{every, Each};
 ghost use Rattle.ticks.specs.Ticks.{most_charge, ticks};
@@ -15,7 +17,7 @@ use ticks::{Instant, Length};
 
 // A customer's export that was promised: it still owes `owed` ticks before the deadline.
 #[repr(C)]
-#[derive(Drop)]
+#[derive(Clone, Copy)]
 pub struct Job {
     pub number: u32,
     pub owed: Length,
@@ -27,14 +29,14 @@ pub struct Job {
 // The live jobs stand at the front, earliest deadline first, lower number first on equal ones; the places after them are all
 // zero.
 #[repr(C)]
-#[derive(Drop)]
+#[derive(Clone, Copy)]
 pub struct Table {
     pub count: usize,
     pub jobs: [Job; Job::MOST],
 }
 
 // The place of a live job.
-#[derive(Drop)]
+#[derive(Clone, Copy)]
 pub enum Found {
     At(usize),
     Nothing,

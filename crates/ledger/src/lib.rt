@@ -1,6 +1,8 @@
 // The state of a box, handed down whole: the clock, the charge, the feeds and the jobs. Whether it is in order, and the one
 // way to make a state from another; in its specs how it is read as a book of the mathematics and written from one.
 // It must not know refusals, nor the calls.
+#![tactic(auto)]
+
 ghost use Rattle.std.specs.Prelude.{◌≡◌};
 ghost use Rattle.ledger.specs.State.{laid, empty, moved, in_order};
 
@@ -9,7 +11,7 @@ use jobs::Table;
 use ticks::{Instant, Length};
 
 #[repr(C)]
-#[derive(Drop)]
+#[derive(Clone, Copy)]
 pub struct Ledger {
     pub clock: Instant,
     pub charge: Length,

@@ -1,5 +1,7 @@
 // What a caller reads off the desk into lists of its own: the live jobs, and the label of the one that runs.
 // It must not know feeds, refusals, nor who the runner is.
+#![tactic(auto)]
+
 ghost use Rattle.std.specs.Prelude.{◌≡◌, ◌++◌, ◌+◌, ◌*◌, ◌≤◌, ◌<◌, length, take, drop};
 ghost use Rattle.jobs.specs.Jobs.{numbers_a_job, live, Tidy};
 ghost use Rattle.listing.specs.Words.{words_of, words};
@@ -10,7 +12,7 @@ use jobs::{Job, Table};
 
 // A part of one of the two lent lists: 1 the job labels, 2 the feed labels; where it begins, and how many bytes it has.
 #[repr(C)]
-#[derive(Drop)]
+#[derive(Clone, Copy)]
 pub struct Part {
     pub list: u32,
     pub from: usize,

@@ -1,5 +1,7 @@
 // What a mesh file says of its own work: from the front of a binary STL file and the file's length to the ticks that its
 // export wants. It must not know the desk, nor what is asked with the work.
+#![tactic(auto)]
+
 ghost use Rattle.std.specs.Prelude.{◌≡◌, ◌≤◌, ◌<◌, ◌^◌, length};
 ghost use Rattle.mesh.specs.Bands.{work_of};
 ghost use Rattle.mesh.specs.Meshes.{front_bytes, triangles_of, mesh_of};
@@ -7,7 +9,7 @@ ghost use Rattle.mesh.specs.Meshes.{front_bytes, triangles_of, mesh_of};
 use answers::{Refusal, Verdict};
 
 // What a mesh says: why it cannot be asked with, or yes and the ticks that it wants.
-#[derive(Drop)]
+#[derive(Clone, Copy)]
 pub struct Mesh {
     pub verdict: Verdict,
     pub work: u32,

@@ -1,6 +1,8 @@
 // A printer's plan: how its layers come and when each is due. Its limits, the time since a release, the next release and
 // the deadline, what it wants in a stretch of ticks; and Euclid's rule, under the round's common multiple.
 // It must not know what a piece still owes, nor how the clock moves.
+#![tactic(auto)]
+
 use ticks::{Instant, Length};
 
 pub mod euclid;
@@ -12,7 +14,7 @@ ghost use Rattle.plans.specs.Plans.{most_piece, no_plan, plan_in, unused_plan, P
 // A piece of `work` ticks comes every `period` ticks, at the instants that leave the remainder `offset`, and is due `lead` ticks
 // after it came.
 #[repr(C)]
-#[derive(Drop)]
+#[derive(Clone, Copy)]
 pub struct Plan {
     pub period: Length,
     pub work: Length,

@@ -1,5 +1,7 @@
 // The counter's other questions: asking with the mesh file itself, and why a request is refused or how close it comes.
 // It must not know how the desk decides: it asks it.
+#![tactic(auto)]
+
 ghost use Rattle.std.specs.Prelude.{◌≡◌};
 ghost use Rattle.desk.specs.Asking.{Admissible};
 ghost use Rattle.questions.specs.Meshes.{AskedMesh};
@@ -13,7 +15,7 @@ use reasons::Reason;
 // What the customer is told of a request: what an ask would answer; for 6 the earliest instant at which more is owed than
 // there is time, who owes it and the margin there; for a yes the earliest instant that has the smallest margin, and that
 // margin. Nothing beside another refusal.
-#[derive(Drop)]
+#[derive(Clone, Copy)]
 pub struct Because {
     pub verdict: Verdict,
     pub reason: Reason,

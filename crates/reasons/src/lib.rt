@@ -1,6 +1,8 @@
 // What a customer is told of a request: the earliest instant at which more is owed than there is time, or the one with the
 // smallest margin; who owes how much by then; and the margin there.
 // It must not know refusals, nor the step.
+#![tactic(auto)]
+
 ghost use Rattle.std.specs.Prelude.{◌≡◌, ◌+◌, ◌≤◌, ◌<◌, ◌^◌, pos, ◌-ℤ◌};
 ghost use Rattle.ledger.specs.State.{InOrder};
 ghost use Rattle.ledger.specs.Books.{book_of};
@@ -15,7 +17,7 @@ use ticks::{Instant, Length};
 mod due;
 
 // An instant, and what is owed by then.
-#[derive(Drop)]
+#[derive(Clone, Copy)]
 pub struct Debt {
     pub at: Instant,
     pub owed: Length,
@@ -73,7 +75,7 @@ pub fn margin(time: Length, owed: Length) -> i64
 
 // What a customer is told of an instant: how much the live jobs, the feeds and the job that is asked for owe by then, and
 // the margin there.
-#[derive(Drop)]
+#[derive(Clone, Copy)]
 pub struct Reason {
     pub at: Instant,
     pub jobs: Length,

@@ -1,5 +1,7 @@
 // The rehearsal: a session over the desk that hears one line after another and tells what each answers.
 // It must not know input and output, nor the words of an answer: the text is lent to it, and the words are the sayings'.
+#![tactic(auto)]
+
 ghost use Rattle.std.specs.Prelude.{◌≡◌, ◌≤◌, ◌<◌, ◌^◌, length};
 ghost use Rattle.desk.specs.State.{Good};
 ghost use Rattle.rehearsal.specs.Session.{begun, bad_of, feed_of, go_of, end_of, rest_of, run_of, said_of, tick_of, stopped_of};
@@ -14,7 +16,7 @@ use words::Line;
 
 // What was heard so far: the desk, the numbers of the feed lines, whether the desk is open, whether the rehearsal is
 // over, and how many ticks of a run are left.
-#[derive(Drop)]
+#[derive(Clone, Copy)]
 pub struct Session {
     pub desk: Desk,
     pub list: [u32; Feed::NUMBERS * Session::FEEDS],
@@ -25,14 +27,14 @@ pub struct Session {
 }
 
 // The session after a line or a tick, and what is said.
-#[derive(Drop)]
+#[derive(Clone, Copy)]
 pub struct Reply {
     pub session: Session,
     pub said: Said,
 }
 
 // Where in the input a session stands: the place of the next byte, and how many lines were read before it.
-#[derive(Drop)]
+#[derive(Clone, Copy)]
 pub struct Place {
     pub from: usize,
     pub lines: usize,
@@ -44,7 +46,7 @@ impl Place {
 }
 
 // A reply, and where it left the input.
-#[derive(Drop)]
+#[derive(Clone, Copy)]
 pub struct Read {
     pub reply: Reply,
     pub place: Place,

@@ -1,5 +1,7 @@
 // The rehearsal's pairs: each argument names a script, which is rehearsed under its name.
 // It must not know more than where the scripts come from.
+#![tactic(auto)]
+
 use libc::STDOUT_FILENO;
 
 // One script's name on a line, and what the script answers.

@@ -1,6 +1,8 @@
 // Whether everything fits: what is owed by an instant, how far one has to look, and the walk back from there that asks
 // whether there is time enough.
 // It must not know refusals, nor the step.
+#![tactic(auto)]
+
 ghost use Rattle.std.specs.Prelude.{◌≡◌, ◌+◌, ◌*◌, ◌≤◌, ◌<◌, ◌^◌};
 ghost use Rattle.lists.specs.Lists.{total, Each};
 ghost use Rattle.ticks.specs.Ticks.{most_charge, ticks};

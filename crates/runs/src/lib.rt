@@ -1,5 +1,7 @@
 // A run of the desk's steps, written as a waveform while it goes: begun at the desk's clock, and carried on part by part.
 // It must not know how a line is written, nor how a step is answered.
+#![tactic(auto)]
+
 ghost use Rattle.std.specs.Prelude.{◌≡◌, ◌&&◌, ◌++◌, eqb, length, drop};
 ghost use Rattle.waveform.specs.Cursors.{any_due};
 ghost use Rattle.runs.specs.Parts.{begun_of, ordered_at, part_of, Carried, refused_went, went_of, went_bytes};
@@ -10,14 +12,14 @@ use waveform::cursor::Cursor;
 use waveform::parts::Page;
 
 // The cursor of a run that begins, empty where that is refused.
-#[derive(Drop)]
+#[derive(Clone, Copy)]
 pub struct Begun {
     pub cursor: Cursor,
     pub verdict: Verdict,
 }
 
 // The desk and the cursor that going on hands back and its answer; how many bytes it wrote and how many steps it took.
-#[derive(Drop)]
+#[derive(Clone, Copy)]
 pub struct Went {
     pub desk: Desk,
     pub cursor: Cursor,
@@ -27,7 +29,7 @@ pub struct Went {
 }
 
 // A part under way.
-#[derive(Drop)]
+#[derive(Clone, Copy)]
 struct Going {
     desk: Desk,
     page: Page,

@@ -1,9 +1,11 @@
 // The sayings of a rehearsal: what an answer says, and its text, put into a lent buffer.
 // It must not know the desk: a refusal comes to it as its number.
+#![tactic(auto)]
+
 pub mod put;
 
 // What an answer says; a refusal is told by its number, and 0 is a yes.
-#[derive(Drop)]
+#[derive(Clone, Copy)]
 pub enum Said {
     Nothing,
     Bad(usize),

@@ -1,6 +1,8 @@
 // Whom the tick goes to: the ready work with the earliest deadline, a job before a feed, a lower number before a higher,
 // a lower position before a higher; and the tick given.
 // It must not know what fits.
+#![tactic(auto)]
+
 ghost use Rattle.std.specs.Prelude.{◌≡◌, ℕ, pred, ◌≤◌, ◌<◌, ◌^◌};
 ghost use Rattle.lists.specs.Lists.{Each};
 ghost use Rattle.ticks.specs.Ticks.{ticks};
@@ -22,7 +24,7 @@ use ledger::Ledger;
 use ticks::{Instant, Length};
 
 // A piece of work that wants the tick: whose it is, when it is due and what it still owes.
-#[derive(Drop)]
+#[derive(Clone, Copy)]
 pub struct Piece {
     pub who: Who,
     pub due: Instant,
@@ -31,7 +33,7 @@ pub struct Piece {
 
 // The state after a step and its answer; whom the tick went to, and what that piece of work still owes after it, before any
 // release. Nobody and nothing where the clock is at its end.
-#[derive(Drop)]
+#[derive(Clone, Copy)]
 pub struct Stepped {
     pub ledger: Ledger,
     pub verdict: Verdict,

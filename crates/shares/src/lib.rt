@@ -1,5 +1,7 @@
 // A share p/q of the processor for exports with no date: which numbers are one, and how long a job takes at it.
 // It must not know deadlines, feeds, jobs or refusals.
+#![tactic(auto)]
+
 ghost use Rattle.std.specs.Prelude.{◌≡◌, true, ◌<◌, ◌^◌};
 ghost use Rattle.shares.specs.Shares.{share, no_share, is_none, is_share, share_in, time_at};
 
@@ -7,7 +9,7 @@ use ticks::Length;
 
 // Ticks of every q that exports with no date may count on: p of them. 0/0 where the opening had no share.
 #[repr(C)]
-#[derive(Drop)]
+#[derive(Clone, Copy)]
 pub struct Share {
     pub p: u32,
     pub q: u32,

@@ -1,5 +1,7 @@
 // The showing of a waveform: a text is read whole from an open file, and what it tells of a run goes to standard output.
 // It must not know how a text is judged: it reads, calls the waveform and writes.
+#![tactic(auto)]
+
 ghost use Rattle.std.specs.Prelude.{◌≡◌, ◌+◌, ◌≤◌, length};
 ghost use Rattle.showing.specs.Texts.{most_line, line_of};
 ghost use Rattle.showing.specs.Answers.{Kept, Added, Listed, RunTold, Answered};
@@ -11,7 +13,7 @@ use waveform::stretches::{Bookmark, Stretch, Told};
 pub mod put;
 
 // What a line shows: the start of the run, one of its stretches, its end; or the number of the line that is wrong.
-#[derive(Drop)]
+#[derive(Clone, Copy)]
 pub enum Shown {
     Start(u64),
     Ran(Stretch),

@@ -1,5 +1,7 @@
 // The telling of a rehearsal: a script is read whole from an open file, and each answer goes to standard output.
 // It must not know the rules: it reads, calls the rehearsal and writes.
+#![tactic(auto)]
+
 ghost use Rattle.std.specs.Prelude.{◌+◌, ◌≤◌, ◌<◌, length};
 ghost use Rattle.sayings.specs.Texts.{most_text};
 ghost use Rattle.telling.specs.Going.{Filled, Ready, Onto};
@@ -9,7 +11,7 @@ use rehearsal::{Place, Session};
 use sayings::Said;
 
 // A session under way: where it stands in the input, and how many bytes of the buffer wait to be written.
-#[derive(Drop)]
+#[derive(Clone, Copy)]
 struct Going {
     session: Session,
     place: Place,
@@ -17,7 +19,7 @@ struct Going {
 }
 
 // A run under way.
-#[derive(Drop)]
+#[derive(Clone, Copy)]
 struct Running {
     session: Session,
     at: usize,

@@ -1,5 +1,7 @@
 // Text over bytes: finding a byte, decimal numbers, words that are the same, and how text is put into a lent buffer.
 // It must not know what any text means.
+#![tactic(auto)]
+
 ghost use Rattle.std.specs.Prelude.{◌≡◌, ◌<◌, ◌^◌, drop};
 ghost use Rattle.text.specs.Numbers.{Base, is_digit, is_shaped, number_in, number_of, bits_of};
 ghost use Rattle.text.specs.Fields.{same, found_in, line_end};
@@ -7,14 +9,14 @@ ghost use Rattle.text.specs.Fields.{same, found_in, line_end};
 pub mod put;
 
 // Where a byte stands, or that it stands nowhere.
-#[derive(Drop)]
+#[derive(Clone, Copy)]
 pub enum Found {
     At(usize),
     Nothing,
 }
 
 // What a field is as a number.
-#[derive(Drop)]
+#[derive(Clone, Copy)]
 pub enum Number {
     Is(u64),
     Not,

@@ -1,5 +1,7 @@
 // Time in whole ticks: the instant and the length, each with its limits, named here and nowhere else, and the few sums and
 // differences that are allowed between them. It must not know feeds, jobs or refusals.
+#![tactic(auto)]
+
 ghost use Rattle.std.specs.Prelude.{◌≡◌, ◌+◌, ◌≤◌, ◌<◌, ◌^◌, ltb, leb, eqb};
 ghost use Rattle.ticks.specs.Ticks.{last_instant, most_job, most_feed, most_round, most_charge, within, from_one, job_length, owed_length};
 ghost use Rattle.ticks.specs.Ticks.{feed_length, sum};
@@ -7,12 +9,12 @@ ghost use Rattle.ticks.specs.Ticks.{plus, next, previous, back, ticks_since, rem
 
 // A moment that the clock can read; tick t lies between the instants t and t + 1.
 #[repr(C)]
-#[derive(Drop)]
+#[derive(Clone, Copy)]
 pub struct Instant(pub u64);
 
 // How many ticks: a work, a period, a lead, an offset.
 #[repr(C)]
-#[derive(Drop)]
+#[derive(Clone, Copy)]
 pub struct Length(pub u64);
 
 impl Instant {

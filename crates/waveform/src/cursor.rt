@@ -12,7 +12,7 @@ use ticks::Instant;
 
 // How many of the lines in front are written, and which of a mark, the job's value and the feed's are due.
 #[repr(C)]
-#[derive(Drop)]
+#[derive(Clone, Copy)]
 pub struct Due {
     pub heads: u32,
     pub mark: bool,
@@ -22,7 +22,7 @@ pub struct Due {
 
 // Whether a step was taken, what is due, since when the same one runs, the clock, and the values of the two wires.
 #[repr(C)]
-#[derive(Drop)]
+#[derive(Clone, Copy)]
 pub struct Cursor {
     pub ran: bool,
     pub due: Due,

@@ -1,5 +1,7 @@
 // A run of steps as a waveform: what a line of such a text says, how far a text has come, and how a run is written line by line.
 // It must not know the desk, nor who may run when.
+#![tactic(auto)]
+
 ghost use Rattle.std.specs.Prelude.{◌≡◌, ◌≤◌};
 ghost use Rattle.waveform.specs.Bytes.{head_lines, head_in, mark_by, Narrow, value_by, value_of, says};
 ghost use Rattle.waveform.specs.Reading.{alone, ran, headed, opens, jobbed, goes_to, halfway, after_feed, turned, through};
@@ -16,7 +18,7 @@ pub mod put;
 pub mod stretches;
 
 // What a line says: one of those in front, the instant of a mark, the value of the wire for jobs or of the one for feeds.
-#[derive(Drop)]
+#[derive(Clone, Copy)]
 pub enum Token {
     Head(u32),
     Mark(u64),
@@ -27,7 +29,7 @@ pub enum Token {
 
 // How far a text has come: lines in front; the first mark; the job's value after it; a stretch that began with these values; a
 // mark after one; a new value for the job behind such a mark, the feed's as before; or no text of a run begins so.
-#[derive(Drop)]
+#[derive(Clone, Copy)]
 pub enum State {
     Heading(u32),
     Opened(u64),
@@ -40,7 +42,7 @@ pub enum State {
 
 // What is made of a text: the number of the first line that no text of a run has there; or, where it ends well, the run's start,
 // its end and how many stretches it has.
-#[derive(Drop)]
+#[derive(Clone, Copy)]
 pub enum Outcome {
     Wrong(usize),
     Well(u64, u64, usize),

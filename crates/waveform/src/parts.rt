@@ -9,14 +9,14 @@ use crate::cursor::Cursor;
 use answers::{Refusal, Verdict};
 
 // A run that is being written, and the place in the buffer behind what is written.
-#[derive(Drop)]
+#[derive(Clone, Copy)]
 pub struct Page {
     pub cursor: Cursor,
     pub at: usize,
 }
 
 // The cursor that closing hands back, its answer, and how many bytes it wrote.
-#[derive(Drop)]
+#[derive(Clone, Copy)]
 pub struct Closed {
     pub cursor: Cursor,
     pub verdict: Verdict,

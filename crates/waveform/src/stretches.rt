@@ -11,7 +11,7 @@ use text::Found;
 // Where the reading of a text stands: the place of the next byte, how many whole lines are before it, the instant of the mark that
 // is the last of them, and the values of the two wires before that mark. The place 0 is the front, whatever the rest says.
 #[repr(C)]
-#[derive(Drop)]
+#[derive(Clone, Copy)]
 pub struct Bookmark {
     pub place: usize,
     pub lines: usize,
@@ -21,7 +21,7 @@ pub struct Bookmark {
 }
 
 // The ticks from one instant up to another went to this one.
-#[derive(Drop)]
+#[derive(Clone, Copy)]
 pub struct Stretch {
     pub from: u64,
     pub to: u64,
@@ -30,7 +30,7 @@ pub struct Stretch {
 
 // What is told from a bookmark on: that it stands in no such text; the number of the line that no text of a run has there; the next
 // stretch, and the bookmark behind it; or that the text ends well there, and the bookmark at its end.
-#[derive(Drop)]
+#[derive(Clone, Copy)]
 pub enum Told {
     Disorder,
     Wrong(usize),

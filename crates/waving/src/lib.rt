@@ -1,5 +1,7 @@
 // The waving of a script: it is read whole from an open file, and the waveform of its ticks goes to standard output.
 // It must not know the rules, nor how a line is written: it reads, calls the rehearsal and the runs, and writes.
+#![tactic(auto)]
+
 ghost use Rattle.std.specs.Prelude.{◌≤◌, ◌<◌};
 ghost use Rattle.waving.specs.Going.{Ready, Onto};
 
@@ -8,7 +10,7 @@ use rehearsal::{Place, Session};
 use waveform::cursor::Cursor;
 
 // A script under way: the session, where it stands in the input, and the cursor of its run, empty before the desk is open.
-#[derive(Drop)]
+#[derive(Clone, Copy)]
 struct Going {
     session: Session,
     place: Place,
@@ -16,7 +18,7 @@ struct Going {
 }
 
 // A session and the cursor of its run.
-#[derive(Drop)]
+#[derive(Clone, Copy)]
 struct Running {
     session: Session,
     cursor: Cursor,

@@ -1,5 +1,7 @@
 // The words of the rehearsal: what a line of input means.
 // It must not know feeds, jobs, clocks, the desk's limits, or where in a rehearsal a line stands.
+#![tactic(auto)]
+
 ghost use Rattle.std.specs.Prelude.{◌≡◌};
 ghost use Rattle.text.specs.Numbers.{number_of};
 ghost use Rattle.text.specs.Fields.{fields_of};
@@ -10,28 +12,28 @@ ghost use Rattle.words.specs.Lines.{line_of};
 use text::{Found, Number};
 
 // What a field is as a number that is not too large for its place.
-#[derive(Drop)]
+#[derive(Clone, Copy)]
 enum Small {
     Is(u32),
     Not,
 }
 
 // What the fields after a word are as three numbers.
-#[derive(Drop)]
+#[derive(Clone, Copy)]
 enum Three {
     Are(u32, u32, u32),
     Not,
 }
 
 // What the fields after a word are as four numbers.
-#[derive(Drop)]
+#[derive(Clone, Copy)]
 enum Four {
     Are(u32, u32, u32, u32),
     Not,
 }
 
 // The first field of a line.
-#[derive(Drop)]
+#[derive(Clone, Copy)]
 enum Word {
     Feed,
     Go,
@@ -43,7 +45,7 @@ enum Word {
 }
 
 // What a line says.
-#[derive(Drop)]
+#[derive(Clone, Copy)]
 pub enum Line {
     Feed(u32, u32, u32, u32),
     Go(u64, u32),
