@@ -15,9 +15,9 @@ unfolding first_of
 stops l ls h = ap (λ b. cond b (No l.refusal) (first_of ls)) h
 
 -- one that does not leaves the answer to the rest
-pub goes_on : (l : Line) (ls : List Line) (v : Verdict) → l.holds ≡ false → first_of ls ≡ v → first_of (l ∷ ls) ≡ v
+pub goes_on_lem : (l : Line) (ls : List Line) (v : Verdict) → l.holds ≡ false → first_of ls ≡ v → first_of (l ∷ ls) ≡ v
 unfolding first_of
-goes_on l ls v h e = ap (λ b. cond b (No l.refusal) (first_of ls)) h ∙ e
+goes_on_lem l ls v h e = ap (λ b. cond b (No l.refusal) (first_of ls)) h ∙ e
 
 pub no_line : first_of [] ≡ Yes
 unfolding first_of
@@ -72,7 +72,7 @@ unfolding first_of
 goes_past [] ms h = refl
 goes_past (l ∷ ls) ms h =
     let t = yes_first l ls h in
-    goes_on l (ls ++ ms) (first_of ms) t.0 (goes_past ls ms t.1)
+    goes_on_lem l (ls ++ ms) (first_of ms) t.0 (goes_past ls ms t.1)
 
 -- of both, none holds
 pub yes_both : (ls ms : List Line) → first_of (ls ++ ms) ≡ Yes → (first_of ls ≡ Yes) × (first_of ms ≡ Yes)
@@ -81,7 +81,7 @@ yes_both [] ms h = (refl, h)
 yes_both (l ∷ ls) ms h =
     let t = yes_first l (ls ++ ms) h in
     let r = yes_both ls ms t.1 in
-    (goes_on l ls Yes t.0 r.0, r.1)
+    (goes_on_lem l ls Yes t.0 r.0, r.1)
 
 -- lines that stop leave nothing to the others
 pub not_yes_before : (ls ms : List Line) → is_yes (first_of ls) ≡ false → first_of (ls ++ ms) ≡ first_of ls
@@ -97,7 +97,7 @@ from_later l ls x e differ = go l.holds refl
   where
     go : (b : Bool) → l.holds ≡ b → first_of ls ≡ No x
     go true h = absurd (differ (ap answer_of (sym (stops l ls h) ∙ e)))
-    go false h = sym (goes_on l ls (first_of ls) h refl) ∙ e
+    go false h = sym (goes_on_lem l ls (first_of ls) h refl) ∙ e
 
 -- what is handed back by the answer
 module _ {A : Type 0} (v : Verdict) (a b : A) where

@@ -4,7 +4,7 @@ use mathlib.Core.Bool.{true, false}
 use mathlib.Core.List.{List, ◌∷◌, ◌++◌}
 use Rattle.answers.specs.declared.Verdict.TheVariants.{Yes, No}
 use Rattle.answers.specs.Answers.{Line, first_of, is_yes, on_yes}
-use Rattle.answers.proofs.Answers.{stops, goes_on, goes_past, not_yes_before, on_yes_lem, on_no}
+use Rattle.answers.proofs.Answers.{stops, goes_on_lem, goes_past, not_yes_before, on_yes_lem, on_no}
 use Rattle.desk.specs.declared.Desk.{Desk}
 use Rattle.desk.specs.declared.Answer.{Answer}
 use Rattle.desk.specs.Answers.{answered}
@@ -30,7 +30,7 @@ module _ (new old : Desk) where
 
   -- it passes
   pub answered_on : (l : Line) (ls : List Line) → l.holds ≡ false → answered ls new old ≡ answered (l ∷ ls) new old
-  answered_on l ls h = answered_alike ls (l ∷ ls) (sym (goes_on l ls (first_of ls) h refl))
+  answered_on l ls h = answered_alike ls (l ∷ ls) (sym (goes_on_lem l ls (first_of ls) h refl))
 
 -- a refusal hands back the old desk, whatever the new one is
 pub refused_alike : (ls : List Line) (new newer old : Desk) → is_yes (first_of ls) ≡ false → answered ls new old ≡ answered ls newer old

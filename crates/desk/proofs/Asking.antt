@@ -10,7 +10,7 @@ use Rattle.lists.specs.Lists.{Each, total}
 use Rattle.lists.proofs.Lists.{total_map}
 use Rattle.lists.proofs.Tests.{both}
 use Rattle.ticks.specs.Ticks.{most_job, job_length, ticks}
-use Rattle.ticks.proofs.Tests.{from_one}
+use Rattle.ticks.proofs.Tests.{from_one_lem}
 use Rattle.jobs.specs.declared.Job.{Job}
 use Rattle.jobs.specs.declared.Table.{Table}
 use Rattle.jobs.specs.Jobs.{most_jobs, no_job, table_of, Tidy, JobsIn, live}
@@ -30,7 +30,7 @@ use Rattle.ledger.specs.declared.Ledger.{Ledger}
 use Rattle.ledger.specs.State.{Sized, InOrder, moved}
 use Rattle.ledger.specs.Books.{book_job, book_of}
 use Rattle.ledger.proofs.Books.{book_of_figured}
-use Rattle.desk.proofs.InOrder.{in_order}
+use Rattle.desk.proofs.InOrder.{in_order_lem}
 use Rattle.room.proofs.Owed.{jobs_modest}
 use Rattle.desk.specs.declared.Desk.{Desk}
 use Rattle.desk.specs.declared.Answer.{Answer}
@@ -52,8 +52,8 @@ admissible d number work lead s e =
     let numbered = yes_first _ _ u.1 in
     let full = yes_first _ _ numbered.1 in
     let lengths = both (job_length (ticks work)) (job_length (ticks lead)) (not-false _ outside.0) in
-    let w = from_one most_job (ticks work) lengths.0 in
-    let far = from_one most_job (ticks lead) lengths.1 in
+    let w = from_one_lem most_job (ticks work) lengths.0 in
+    let far = from_one_lem most_job (ticks lead) lengths.1 in
     record {
       sized = s;
       order = not-false _ t.0;
@@ -72,7 +72,7 @@ admissible d number work lead s e =
 pub takes : (d : Desk) (j : Job) → Admissible d j
     → Tidy d.ledger.table × (d.ledger.table.count < most_jobs) × Sorted (live d.ledger.table) × Each Modest (live d.ledger.table) × Figured (live d.ledger.table) × Modest j
 takes d j a =
-    let order = in_order d a.sized a.order in
+    let order = in_order_lem d a.sized a.order in
     (order.tidy_table, a.space, order.jobs.order, jobs_modest d.ledger order, order.jobs.figures, omega (arith, a.job.owed.1, order.charge))
 
 -- with the job that is asked for the state is still in order, and its book is the book with that job
@@ -81,7 +81,7 @@ module _ (d : Desk) (j : Job) (a : Admissible d j) (t : Table) (e : t ≡ table_
   l = d.ledger
 
   order : InOrder l
-  order = in_order d a.sized a.order
+  order = in_order_lem d a.sized a.order
 
   taken_live : live t ≡ figured (insert j (live l.table))
   taken_live = ap live e ∙ live_of (figured (insert j (live l.table)))

@@ -28,7 +28,7 @@ use Rattle.answers.specs.declared.Refusal.TheVariants.{NotInOrder}
 use Rattle.answers.specs.declared.Verdict.{Verdict}
 use Rattle.answers.specs.declared.Verdict.TheVariants.{Yes, No}
 use Rattle.answers.specs.Answers.{first_of, on_yes}
-use Rattle.answers.proofs.Answers.{stops, goes_on}
+use Rattle.answers.proofs.Answers.{stops, goes_on_lem}
 use Rattle.serving.specs.declared.Stepped as serving
 use Rattle.serving.specs.Tick.{last_line, stepped_of}
 use Rattle.desk.specs.State.{in_order}
@@ -106,7 +106,7 @@ pub step_by_serving : (d : Desk) → in_order d ≡ true → stepped_desk d (ste
 unfolding step_of stepped_of
 step_by_serving d fine =
     let l = d.ledger in
-    let says : first_of (step_lines d) ≡ first_of (last_line l ∷ []) = goes_on (disorder d) (last_line l ∷ []) (first_of (last_line l ∷ [])) (ap not fine) refl in
+    let says : first_of (step_lines d) ≡ first_of (last_line l ∷ []) = goes_on_lem (disorder d) (last_line l ∷ []) (first_of (last_line l ∷ [])) (ap not fine) refl in
     (λ i. record { desk = with_either (first_of (last_line l ∷ [])) i; verdict = first_of (last_line l ∷ []); who = on_yes (first_of (last_line l ∷ [])) (who_is (ran (desk.book d)).who) Idle; owes = on_yes (first_of (last_line l ∷ [])) (ticks (ran (desk.book d)).owes) (ticks 0) })
     ∙ (λ i. record {
       desk = on_yes (sym says i) (desk.rewritten d (step (desk.book d))) d;

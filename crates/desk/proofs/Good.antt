@@ -35,7 +35,7 @@ use Rattle.desk.specs.Asking.{ask_lines, requested, with_job, Admissible, Judged
 use Rattle.desk.specs.Undated.{undated_lines, undated_deadline, undated_lead, AskedUndated}
 use Rattle.shares.specs.declared.Share.{Share}
 use Rattle.shares.specs.Shares.{share, share_in}
-use Rattle.shares.proofs.Shares.{share_in}
+use Rattle.shares.proofs.Shares.{share_in_lem}
 use Rattle.desk.proofs.InOrder.{in_order_made}
 use Rattle.desk.proofs.Opening.{opening_passes, shared_passes}
 use Rattle.desk.proofs.Asking.{admissible, said_yes}
@@ -84,7 +84,7 @@ shared_opening_is_good xs start charge p q =
     either (first_of (shared_lines xs start charge p q)) (sharing (share p q) (opened_desk (feeds_in xs) (ticks charge) (instant start))) empty empty_is_good
     (λ e.
     let t = shared_passes xs start charge p q e in
-    sharing_is_good (opened_desk (feeds_in xs) (ticks charge) (instant start)) (share p q) (share_in (share p q) t.0)
+    sharing_is_good (opened_desk (feeds_in xs) (ticks charge) (instant start)) (share p q) (share_in_lem (share p q) t.0)
     (opened_is_good (feeds_in xs) (ticks charge) (instant start) t.1 (nothing_yet xs) t.2 t.3))
 
 module _ (d : Desk) (g : Good d) where

@@ -17,9 +17,9 @@ pub record Beside (d : Desk) : Type 0 where
   pub previous : d.previous.0 ≤ last_instant
 
 -- the state of the box is in order
-pub in_order : (d : Desk) → Sized d.ledger → in_order d ≡ true → InOrder d.ledger
+pub in_order_lem : (d : Desk) → Sized d.ledger → in_order d ≡ true → InOrder d.ledger
 unfolding in_order
-in_order d s h = ledger.in_order d.ledger s (all_of_lem _ h).1.1.0
+in_order_lem d s h = ledger.in_order_lem d.ledger s (all_of_lem _ h).1.1.0
 
 pub in_order_beside : (d : Desk) → in_order d ≡ true → Beside d
 unfolding in_order

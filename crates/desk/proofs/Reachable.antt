@@ -46,7 +46,7 @@ use Rattle.desk.specs.State as state
 use Rattle.desk.specs.State.{book, Good, empty}
 use Rattle.desk.specs.Opening.{laid, opened_desk, Fresh}
 use Rattle.desk.specs.Asking.{with_job, Admissible}
-use Rattle.desk.proofs.InOrder.{Beside, in_order, in_order_beside, in_order_made}
+use Rattle.desk.proofs.InOrder.{Beside, in_order_lem, in_order_beside, in_order_made}
 
 -- a state that a book is written into has as many places as before
 pub rewritten_sized : (l : Ledger) (b : edf.Book) → InOrder l → length b.jobs ≤ most_jobs → Sized (rewritten l b)
@@ -71,7 +71,7 @@ module _ (l : Ledger) (b : edf.Book) (o : InOrder l) (h : Held l b) where
       })
 
 pub good_order : (d : Desk) → Good d → InOrder d.ledger
-good_order d g = in_order d g.sized g.order
+good_order d g = in_order_lem d g.sized g.order
 
 pub good_beside : (d : Desk) → Good d → Beside d
 good_beside d g = in_order_beside d g.order
@@ -171,7 +171,7 @@ pub held_taking : (d : Desk) (j : Job) → Held d.ledger (book d) → Sound (wit
 unfolding taking
 held_taking d j h s a =
     let js = live d.ledger.table in
-    let o = in_order d a.sized a.order in
+    let o = in_order_lem d a.sized a.order in
     let many : length (map book_job js) ≡ length js = length-map js book_job in
     let more : length (map book_job js ++ (book_job j ∷ [])) ≡ length (map book_job js) + 1 = length-append (map book_job js) (book_job j ∷ []) in
     record {

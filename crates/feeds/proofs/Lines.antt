@@ -14,7 +14,7 @@ use Rattle.lists.specs.Lists.{every, Each}
 use Rattle.answers.specs.declared.Refusal.TheVariants.{Outside, RoundTooLong, TooMuchLoad}
 use Rattle.answers.specs.declared.Verdict.TheVariants.{Yes, No}
 use Rattle.answers.specs.Answers.{first_of}
-use Rattle.answers.proofs.Answers.{stops, goes_on, no_line, yes_first}
+use Rattle.answers.proofs.Answers.{stops, goes_on_lem, no_line, yes_first}
 use Rattle.feeds.specs.declared.Feed.{Feed}
 use Rattle.feeds.specs.Feeds.{most_feeds, numbers_a_feed, feed_in, FeedIn}
 use Rattle.feeds.specs.Round.{periods, round_of, demand, carries}
@@ -38,19 +38,19 @@ module _ (charge : Length) (fs : List Feed) where
   -- line 9 holds and no line before it
   pub feeds_too_long :
       every feed_in fs ≡ true → leb (round_of (periods fs)) most_round ≡ false → first_of (feed_lines charge fs) ≡ No RoundTooLong
-  feeds_too_long p q = goes_on _ _ _ (ap not p) (stops _ _ (ap not q))
+  feeds_too_long p q = goes_on_lem _ _ _ (ap not p) (stops _ _ (ap not q))
 
   -- line 10 holds and no line before it
   pub feeds_too_much :
       every feed_in fs ≡ true → leb (round_of (periods fs)) most_round ≡ true →
       carries charge (round_of (periods fs)) fs ≡ false → first_of (feed_lines charge fs) ≡ No TooMuchLoad
-  feeds_too_much p q h = goes_on _ _ _ (ap not p) (goes_on _ _ _ (ap not q) (stops _ _ (ap not h)))
+  feeds_too_much p q h = goes_on_lem _ _ _ (ap not p) (goes_on_lem _ _ _ (ap not q) (stops _ _ (ap not h)))
 
   -- no line holds
   pub feeds_yes :
       every feed_in fs ≡ true → leb (round_of (periods fs)) most_round ≡ true →
       carries charge (round_of (periods fs)) fs ≡ true → first_of (feed_lines charge fs) ≡ Yes
-  feeds_yes p q h = goes_on _ _ _ (ap not p) (goes_on _ _ _ (ap not q) (goes_on _ _ _ (ap not h) no_line))
+  feeds_yes p q h = goes_on_lem _ _ _ (ap not p) (goes_on_lem _ _ _ (ap not q) (goes_on_lem _ _ _ (ap not h) no_line))
 
   -- in no ticks nothing comes that is due
   carried_from : ((L : ℕ) → 1 ≤ L → L ≤ round_of (periods fs) → demand charge L fs ≤ L) → Each FeedIn fs

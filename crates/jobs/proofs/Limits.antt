@@ -8,7 +8,7 @@ use Rattle.ticks.specs.declared.Instant.{Instant}
 use Rattle.ticks.specs.declared.Length.{Length}
 use Rattle.ticks.specs.Ticks.{most_job, ticks_since, ticks, instant}
 use Rattle.lists.proofs.Tests.{all_of_lem, all_of_made}
-use Rattle.ticks.proofs.Tests.{from_one, from_one_made}
+use Rattle.ticks.proofs.Tests.{from_one_lem, from_one_made}
 use Rattle.lists.proofs.Places.{each_of_every, every_of_each}
 use Rattle.jobs.specs.declared.Job.{Job}
 use Rattle.jobs.specs.declared.Table.{Table}
@@ -21,10 +21,10 @@ pub job_in_lem : (charge : Length) (clock : Instant) (j : Job) → job_in charge
 unfolding job_in
 job_in_lem charge clock j h =
     let t = all_of_lem _ h in
-    let lead = from_one most_job (ticks_since j.deadline clock) t.1.1.1.0 in
+    let lead = from_one_lem most_job (ticks_since j.deadline clock) t.1.1.1.0 in
     record {
       number = leb-true _ _ t.0;
-      owed = from_one (most_job + charge.0) j.owed t.1.0;
+      owed = from_one_lem (most_job + charge.0) j.owed t.1.0;
       ahead = ltb-true _ _ t.1.1.0;
       near = omega arith;
       within = leb-true _ _ t.1.1.1.1.0;

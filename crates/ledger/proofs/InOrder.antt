@@ -44,9 +44,9 @@ use Rattle.ledger.proofs.Books.{owing_as_plans, length_owing_as, read_owing_as}
 use Rattle.ledger.proofs.Pieces.{since_read}
 
 -- THE TEST OF A STATE, AS FACTS
-pub in_order : (l : Ledger) → Sized l → in_order l ≡ true → InOrder l
+pub in_order_lem : (l : Ledger) → Sized l → in_order l ≡ true → InOrder l
 unfolding in_order
-in_order l s h =
+in_order_lem l s h =
     let t = all_of_lem _ h in
     let fs = feeds_pass_lem l.charge l.clock l.feeds t.1.1.0 in
     let js = table_in_lem l.charge l.clock l.table t.1.1.1.0 in

@@ -7,7 +7,7 @@ use native.Mathlib.Omega.{arith}
 use borrow.Author.Tests.{ltb-true, lt-ltb, eqb-true, eq-eqb}
 use Rattle.ticks.specs.Ticks.{most_feed, ticks}
 use Rattle.lists.proofs.Tests.{all_of_lem, all_of_made}
-use Rattle.ticks.proofs.Tests.{from_one, from_one_made}
+use Rattle.ticks.proofs.Tests.{from_one_lem, from_one_made}
 use Rattle.plans.specs.declared.Plan.{Plan}
 use Rattle.plans.specs.Plans.{no_plan, plan_in, PlanIn, unused_plan, since}
 
@@ -16,10 +16,10 @@ unfolding plan_in
 plan_in_lem p h =
     let t = all_of_lem _ h in
     record {
-      period = from_one most_feed p.period t.0;
-      work = from_one most_feed p.work t.1.0;
+      period = from_one_lem most_feed p.period t.0;
+      work = from_one_lem most_feed p.work t.1.0;
       offset = ltb-true _ _ t.1.1.0;
-      lead = from_one p.period.0 p.lead t.1.1.1.0;
+      lead = from_one_lem p.period.0 p.lead t.1.1.1.0;
     }
 
 pub plan_in_made : (p : Plan) → PlanIn p → plan_in p ≡ true

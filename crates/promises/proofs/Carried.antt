@@ -13,7 +13,7 @@ use Rattle.answers.specs.declared.Refusal.{Refusal}
 use Rattle.answers.specs.declared.Refusal.TheVariants.{TooMuchLoad}
 use Rattle.answers.specs.declared.Verdict.TheVariants.{Yes, No}
 use Rattle.answers.specs.Answers.{Line, first_of}
-use Rattle.answers.proofs.Answers.{goes_on, no_line, yes_is_not_no, from_later}
+use Rattle.answers.proofs.Answers.{goes_on_lem, no_line, yes_is_not_no, from_later}
 use Rattle.edf.specs.Load.{Light}
 use Rattle.ledger.proofs.InOrder.{book_light, demand_of}
 use Rattle.desk.specs.Opening.{front_lines, opened_of, opened_shared_of}
@@ -27,7 +27,7 @@ last_holds l x e = go l.holds refl
   where
     go : (b : Bool) → l.holds ≡ b → l.holds ≡ true
     go true h = h
-    go false h = absurd (yes_is_not_no x (sym (goes_on l [] Yes h no_line) ∙ e))
+    go false h = absurd (yes_is_not_no x (sym (goes_on_lem l [] Yes h no_line) ∙ e))
 
 -- of the feeds' own three lines only the last gives 10
 feeds_want_more : (xs : List ℕ) (charge : ℕ) → first_of (feed_lines (ticks charge) (feeds_in xs)) ≡ No TooMuchLoad → (L : ℕ) × (L < demand (ticks charge) L (feeds_in xs))

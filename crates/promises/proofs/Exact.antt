@@ -40,7 +40,7 @@ use Rattle.desk.specs.State.{book, since, rewritten}
 use Rattle.desk.specs.Calls.{disorder, step_lines, step_of, runner_of}
 use Rattle.desk.specs.Asking.{requested, with_job, Judged}
 use Rattle.desk.specs.Undated.{undated_deadline, undated_lead}
-use Rattle.desk.proofs.InOrder.{in_order}
+use Rattle.desk.proofs.InOrder.{in_order_lem}
 use Rattle.desk.proofs.Asking.{admissible, asked_once}
 use Rattle.desk.proofs.Undated.{asked_undated_once}
 use Rattle.desk.proofs.Reachable.{admissible_askable, step_in_table_order}
@@ -103,7 +103,7 @@ unfolding FitsIsRoom
 fits_is_room d number work lead s e =
     let j = requested d number work lead in
     let a = admissible d number work lead s e in
-    let o = in_order d s a.order in
+    let o = in_order_lem d s a.order in
     fits_iff_room (with_job d j) (taking_in_order (book d) (book_job j) (state_in_order d.ledger o) (admissible_askable d j a))
     (subst Light (sym (taking_keeps_plans (book_job j) (book d))) (state_light d.ledger o))
 
@@ -130,7 +130,7 @@ turns x fs =
 -- a desk that lines 13 and 3 let pass
 module _ (d : Desk) (s : Sized d.ledger) (e : first_of (step_lines d) ≡ Yes) where
   pub steps_in_order : InOrder d.ledger
-  steps_in_order = in_order d s (not-false _ (yes_first (disorder d) _ e).0)
+  steps_in_order = in_order_lem d s (not-false _ (yes_first (disorder d) _ e).0)
 
   -- what it hands back, and how that is read
   pub step_hands_back : (step_of d).desk ≡ rewritten d (step (book d))

@@ -33,7 +33,7 @@ use Rattle.answers.specs.declared.Refusal.TheVariants.{DoesNotFit}
 use Rattle.answers.specs.declared.Verdict.{Verdict}
 use Rattle.answers.specs.declared.Verdict.TheVariants.{Yes, No}
 use Rattle.answers.specs.Answers.{Line, line, first_of, passes, on_yes, answer_of}
-use Rattle.answers.proofs.Answers.{goes_on, stops_before, goes_past}
+use Rattle.answers.proofs.Answers.{goes_on_lem, stops_before, goes_past}
 use Rattle.ledger.specs.declared.Ledger.{Ledger}
 use Rattle.ledger.specs.State.{in_order, moved}
 use Rattle.ledger.specs.Books.{book_of}
@@ -135,7 +135,7 @@ module _ (d : Desk) (number work lead : ℕ) where
   asked_is r g a = go (first_of lines) refl
     where
       in_order : (v : Verdict) → first_of lines ≡ v → first_of (disorder d ∷ lines) ≡ v
-      in_order v e = goes_on (disorder d) lines v (ap not g.order) e
+      in_order v e = goes_on_lem (disorder d) lines v (ap not g.order) e
 
       go : (v : Verdict) → first_of lines ≡ v → r ≡ answering (first_of (lines ++ sixth fitting))
       go Yes e =
@@ -161,7 +161,7 @@ module _ (d : Desk) (number work : ℕ) where
   undated_is r g a = go (first_of own) refl
     where
       past : (v : Verdict) → first_of own ≡ v → first_of (undated_lines d number) ≡ v
-      past v e = goes_on (disorder d) own v (ap not g.order) e
+      past v e = goes_on_lem (disorder d) own v (ap not g.order) e
 
       go : (v : Verdict) → first_of own ≡ v → r ≡ stopped_or (first_of own) d (remembering (instant (undated_deadline d work)) (asking d number work (undated_lead d work)))
       go Yes e =

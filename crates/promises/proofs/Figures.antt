@@ -34,7 +34,7 @@ use Rattle.desk.specs.State.{book, rewritten, in_order}
 use Rattle.desk.specs.Calls.{disorder, step_lines, step_of, end_lines, end_of, rest_lines, rest_of, counted_of, listed_of}
 use Rattle.desk.specs.Asking.{ask_lines, requested, with_job, Judged, Asked}
 use Rattle.desk.specs.Undated.{AskedUndated, undated_lead}
-use Rattle.desk.proofs.InOrder.{in_order}
+use Rattle.desk.proofs.InOrder.{in_order_lem}
 use Rattle.desk.proofs.Undated.{undated_yes}
 use Rattle.questions.specs.Meshes.{AskedMesh}
 use Rattle.promises.specs.Runs.{opened}
@@ -44,7 +44,7 @@ use Rattle.promises.proofs.Openings.{opening_good}
 
 -- a state in order has true figures
 ordered_true : (d : Desk) → Sized d.ledger → in_order d ≡ true → TrueFigures d
-ordered_true d s e = (in_order d s e).jobs.figures
+ordered_true d s e = (in_order_lem d s e).jobs.figures
 
 pub every_figure_is_the_sum : EveryFigureIsTheSum
 unfolding EveryFigureIsTheSum
@@ -110,6 +110,6 @@ unfolding TheListShowsTheSums counted_of listed_of
 the_list_shows_the_sums d buffer s e =
     let js = live d.ledger.table in
     let fine = not-false (in_order d) (yes_first (disorder d) _ e).0 in
-    let o = (in_order d s fine).jobs in
+    let o = (in_order_lem d s fine).jobs in
     ap (λ v. on_yes v (words js ++ drop (numbers_a_job * d.ledger.table.count) buffer) buffer) e
     ∙ ap (λ l. words l ++ drop (numbers_a_job * d.ledger.table.count) buffer) (sym (ap figured (sorted_own js o.order) ∙ figured_own js o.figures))

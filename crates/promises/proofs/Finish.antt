@@ -15,7 +15,7 @@ use Rattle.answers.specs.declared.Who.TheVariants.{Idle}
 use Rattle.answers.specs.declared.Verdict.{Verdict}
 use Rattle.answers.specs.declared.Verdict.TheVariants.{Yes, No}
 use Rattle.answers.specs.Answers.{first_of, on_yes}
-use Rattle.answers.proofs.Answers.{goes_on, no_line, yes_first, yes_is_not_no}
+use Rattle.answers.proofs.Answers.{goes_on_lem, no_line, yes_first, yes_is_not_no}
 use Rattle.serving.specs.Tick.{last_line}
 use Rattle.edf.specs.Pieces.{Piece}
 use Rattle.edf.specs.Step.{runner, ran, step}
@@ -45,7 +45,7 @@ now d = d.ledger.clock.0
 
 -- on a good desk a step is taken exactly if the clock can go on
 step_taken : (d : Desk) → Good d → now d < last_instant → first_of (step_lines d) ≡ Yes
-step_taken d g h = goes_on (disorder d) _ Yes (ap not g.order) (goes_on (last_line d.ledger) [] Yes (ap not (lt-ltb _ _ h)) no_line)
+step_taken d g h = goes_on_lem (disorder d) _ Yes (ap not g.order) (goes_on_lem (last_line d.ledger) [] Yes (ap not (lt-ltb _ _ h)) no_line)
 
 taken_before_last : (d : Desk) → first_of (step_lines d) ≡ Yes → now d < last_instant
 taken_before_last d e = ltb-true _ _ (not-false _ (yes_first (last_line d.ledger) [] (yes_first (disorder d) _ e).1).0)

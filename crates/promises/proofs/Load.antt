@@ -23,7 +23,7 @@ use Rattle.jobs.proofs.Places.{live_count}
 use Rattle.answers.specs.declared.Verdict.{Verdict}
 use Rattle.answers.specs.declared.Verdict.TheVariants.{Yes, No}
 use Rattle.answers.specs.Answers.{first_of}
-use Rattle.answers.proofs.Answers.{goes_on, goes_past, no_line, yes_first, yes_both, yes_is_not_no}
+use Rattle.answers.proofs.Answers.{goes_on_lem, goes_past, no_line, yes_first, yes_both, yes_is_not_no}
 use Rattle.edf.specs.Book as edf
 use Rattle.edf.specs.Fits.{Fits}
 use Rattle.edf.specs.Calls.{taking, Askable}
@@ -171,9 +171,9 @@ module _ (c d : Desk) (gc : Good c) (gd : Good d) (clock : c.ledger.clock ≡ d.
       let own : first_of (request_lines c.ledger.clock number (ticks work) (ticks lead)) ≡ Yes = rw clock passed.0 in
       let free = yes_first _ _ passed.1 in
       let few : d.ledger.table.count < most_jobs = leb-false _ _ (yes_first _ _ free.1).0 in
-      goes_on (disorder c) _ Yes (ap not gc.order)
+      goes_on_lem (disorder c) _ Yes (ap not gc.order)
       (goes_past (request_lines c.ledger.clock number (ticks work) (ticks lead)) (place_lines c.ledger.table number) own
-      ∙ goes_on _ _ Yes (ap not (lighter_lacks number (not-false _ free.0))) (goes_on _ [] Yes (lt-leb most_jobs c.ledger.table.count (omega (arith, fewer))) no_line))
+      ∙ goes_on_lem _ _ Yes (ap not (lighter_lacks number (not-false _ free.0))) (goes_on_lem _ [] Yes (lt-leb most_jobs c.ledger.table.count (omega (arith, fewer))) no_line))
     where
       fewer : c.ledger.table.count ≤ d.ledger.table.count
       fewer =
@@ -201,7 +201,7 @@ module _ (c d : Desk) (gc : Good c) (gd : Good d) (clock : c.ledger.clock ≡ d.
       go : (v : Verdict) → first_of (disorder d ∷ mesh_lines s size) ≡ v → q.verdict ≡ Yes
       go Yes e =
           lighter_asks number (work_of (triangles_of s)) lead q r (a.asked e) y
-          (b.asked (goes_on (disorder c) (mesh_lines s size) Yes (ap not gc.order) (yes_first (disorder d) (mesh_lines s size) e).1))
+          (b.asked (goes_on_lem (disorder c) (mesh_lines s size) Yes (ap not gc.order) (yes_first (disorder d) (mesh_lines s size) e).1))
       go (No x) e = absurd (yes_is_not_no x (sym y ∙ ap (λ k. k.verdict) (a.stopped x e)))
 
   lighter_grants : GrantsToo c d

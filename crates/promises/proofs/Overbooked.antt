@@ -23,7 +23,7 @@ use Rattle.edf.proofs.Overbooked.{overbooked_fits_nothing}
 use Rattle.ledger.specs.State.{Sized}
 use Rattle.ledger.specs.Books.{book_job}
 use Rattle.ledger.proofs.InOrder.{state_in_order, state_light, state_held}
-use Rattle.desk.proofs.InOrder.{in_order}
+use Rattle.desk.proofs.InOrder.{in_order_lem}
 use Rattle.desk.specs.declared.Desk.{Desk}
 use Rattle.desk.specs.declared.Answer.{Answer}
 use Rattle.desk.specs.State.{book, in_order}
@@ -45,7 +45,7 @@ ask_gets_six : (d : Desk) → Sized d.ledger → (Fits (book d) → ⊥) → (nu
 ask_gets_six d s n number work lead r e a =
     let j = requested d number work lead in
     let x = admissible d number work lead s e in
-    let o = in_order d s x.order in
+    let o = in_order_lem d s x.order in
     judged_no d j r
     (overbooked_fits_nothing (book d) (book_job j) (state_in_order d.ledger o) (state_light d.ledger o) n (admissible_askable d j x))
     (a.judged e)
@@ -65,7 +65,7 @@ out_of_order : (d : Desk) → Sized d.ledger → (edf.InOrder (book d) → ⊥) 
 out_of_order d s n = go (in_order d) refl
   where
     go : (b : Bool) → in_order d ≡ b → b ≡ false
-    go true e = absurd (n (state_in_order d.ledger (in_order d s e)))
+    go true e = absurd (n (state_in_order d.ledger (in_order_lem d s e)))
     go false e = refl
 
 -- a step hands back a state of as many places

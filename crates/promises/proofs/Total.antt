@@ -16,7 +16,7 @@ use Rattle.answers.specs.declared.Refusal.TheVariants.{DoesNotFit}
 use Rattle.answers.specs.declared.Verdict.{Verdict}
 use Rattle.answers.specs.declared.Verdict.TheVariants.{Yes, No}
 use Rattle.answers.specs.Answers.{Line, line, first_of, on_yes}
-use Rattle.answers.proofs.Answers.{stops, goes_on, no_line, yes_first, yes_is_not_no}
+use Rattle.answers.proofs.Answers.{stops, goes_on_lem, no_line, yes_first, yes_is_not_no}
 use Rattle.edf.specs.Fits.{Fits}
 use Rattle.edf.specs.Step.{ran, step}
 use Rattle.ledger.specs.Books.{who_is}
@@ -35,7 +35,7 @@ use Rattle.promises.specs.Total.{FirstThatHolds, AskRefused, MeshRefused, Undate
 -- lines of which none holds, before others
 past : (ls ms : List Line) (v : Verdict) → Each (λ l. l.holds ≡ false) ls → first_of ms ≡ v → first_of (ls ++ ms) ≡ v
 past [] ms v n e = e
-past (l ∷ ls) ms v n e = goes_on l (ls ++ ms) v n.0 (past ls ms v n.1 e)
+past (l ∷ ls) ms v n e = goes_on_lem l (ls ++ ms) v n.0 (past ls ms v n.1 e)
 
 no_same : (x y : Refusal) → No x ≡ No y → x ≡ y
 no_same x y e = cc
@@ -50,7 +50,7 @@ first_holds (l ∷ ls) x e = go l.holds refl (first_holds ls x)
         let same : l.refusal ≡ x = no_same l.refusal x (sym (stops l ls h) ∙ e) in
         record { before = []; later = ls; stands = λ i. record { holds = h i; refusal = same i } ∷ ls; none = tt }
     go false h ih =
-        let t = ih (sym (goes_on l ls (first_of ls) h refl) ∙ e) in
+        let t = ih (sym (goes_on_lem l ls (first_of ls) h refl) ∙ e) in
         record { before = l ∷ t.before; later = t.later; stands = ap (l ∷◌) t.stands; none = (h, t.none) }
 
 first_is : (ls : List Line) (x : Refusal) → FirstThatHolds ls x → first_of ls ≡ No x
@@ -63,7 +63,7 @@ none_holds (l ∷ ls) e = let t = yes_first l ls e in (t.0, none_holds ls t.1)
 
 all_pass : (ls : List Line) → Each (λ l. l.holds ≡ false) ls → first_of ls ≡ Yes
 all_pass [] n = no_line
-all_pass (l ∷ ls) n = goes_on l ls Yes n.0 (all_pass ls n.1)
+all_pass (l ∷ ls) n = goes_on_lem l ls Yes n.0 (all_pass ls n.1)
 
 -- an ask that no line stops is refused with 6, and only where it does not fit
 judged_refusal : (d : Desk) (j : Job) (r : Answer) (x : Refusal) → Judged d j r → r.verdict ≡ No x → (x ≡ DoesNotFit) × (Fits (with_job d j) → ⊥)

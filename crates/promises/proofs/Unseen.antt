@@ -29,7 +29,7 @@ use Rattle.answers.specs.declared.Who.TheVariants.{Idle}
 use Rattle.answers.specs.declared.Refusal.TheVariants.{NumberLive, Full, PastLast, DoesNotFit, NothingThere, ShortBuffer}
 use Rattle.answers.specs.declared.Verdict.TheVariants.{Yes, No}
 use Rattle.answers.specs.Answers.{line, first_of, on_yes}
-use Rattle.answers.proofs.Answers.{goes_on}
+use Rattle.answers.proofs.Answers.{goes_on_lem}
 use Rattle.edf.specs.Book.{Book}
 use Rattle.edf.specs.Order.{InOrder as BookInOrder}
 use Rattle.edf.specs.Fits.{Fits}
@@ -43,7 +43,7 @@ use Rattle.ledger.specs.State.{InOrder}
 use Rattle.ledger.specs.Books.{book_feeds, book_job, job_of, who_is}
 use Rattle.ledger.proofs.Books.{jobs_of_book_own}
 use Rattle.ledger.proofs.InOrder.{state_in_order}
-use Rattle.desk.proofs.InOrder.{in_order}
+use Rattle.desk.proofs.InOrder.{in_order_lem}
 use Rattle.serving.specs.Tick.{last_line}
 use Rattle.desk.specs.declared.Desk.{Desk}
 use Rattle.desk.specs.declared.Answer.{Answer}
@@ -70,7 +70,7 @@ module _ (c : ℕ) (b : Book) (d : Desk) (g : Good d) (r : Reordered b (book d))
   bs = map job_of b.jobs
 
   order : InOrder d.ledger
-  order = in_order d g.sized g.order
+  order = in_order_lem d g.sized g.order
 
   pub ordered : BookInOrder b
   ordered = reordered_order (book d) b (reordered_sym b (book d) r) (state_in_order d.ledger order)
@@ -104,7 +104,7 @@ module _ (c : ℕ) (b : Book) (d : Desk) (g : Good d) (r : Reordered b (book d))
   lines_same number work lead =
       let live_is = lacks_same number ∙ ap (lacks number) (sym (live_of bs)) in
       let many = count_same ∙ sym (length-map b.jobs job_of) in
-      goes_on (disorder d) (request_lines d.ledger.clock number (ticks work) (ticks lead) ++ place_lines d.ledger.table number) _ (ap not g.order) refl
+      goes_on_lem (disorder d) (request_lines d.ledger.clock number (ticks work) (ticks lead) ++ place_lines d.ledger.table number) _ (ap not g.order) refl
       ∙ (λ i. first_of (request_lines (instant (sym r.clock i)) number (ticks work) (ticks lead) ++ (line (not (live_is i)) NumberLive ∷ line (leb most_jobs (many i)) Full ∷ [])))
 
   judged_same : (number work lead : ℕ) (a : Answer) → Judged d (requested d number work lead) a
@@ -130,7 +130,7 @@ module _ (c : ℕ) (b : Book) (d : Desk) (g : Good d) (r : Reordered b (book d))
 
   mesh_same : (s : List ℕ) (size number lead : ℕ) (a : Answer) → AskedMesh d s size number lead a → MeshAnswers c b s size number lead a.verdict
   mesh_same s size number lead a h =
-      let own = goes_on (disorder d) (mesh_lines s size) _ (ap not g.order) refl in
+      let own = goes_on_lem (disorder d) (mesh_lines s size) _ (ap not g.order) refl in
       record {
         stopped = λ x e. ap (λ k. k.verdict) (h.stopped x (own ∙ e));
         asked = λ e. ask_same number (work_of (triangles_of s)) lead a (h.asked (own ∙ e));
@@ -149,7 +149,7 @@ module _ (c : ℕ) (b : Book) (d : Desk) (g : Good d) (r : Reordered b (book d))
 
     first_same : (number : ℕ) → first_of (undated_lines d number) ≡ first_of (number_line number ∷ share_line s ∷ [])
     first_same number =
-        goes_on (disorder d) (number_line number ∷ share_line d.share ∷ []) _ (ap not g.order) refl ∙ ap (λ t. first_of (number_line number ∷ share_line t ∷ [])) k
+        goes_on_lem (disorder d) (number_line number ∷ share_line d.share ∷ []) _ (ap not g.order) refl ∙ ap (λ t. first_of (number_line number ∷ share_line t ∷ [])) k
 
     undated_same : (number work : ℕ) (a : Answer) → AskedUndated d number work a → UndatedAnswers c s arrived number work a.verdict
     undated_same number work a h =
@@ -171,25 +171,25 @@ module _ (c : ℕ) (b : Book) (d : Desk) (g : Good d) (r : Reordered b (book d))
 
   verdict_same : first_of (step_lines d) ≡ stepped b
   verdict_same =
-      goes_on (disorder d) (last_line d.ledger ∷ []) _ (ap not g.order) refl
+      goes_on_lem (disorder d) (last_line d.ledger ∷ []) _ (ap not g.order) refl
       ∙ (λ i. first_of (line (not (ltb (sym r.clock i) last_instant)) PastLast ∷ []))
 
   -- AN END
   end_same : (n : ℕ) → first_of (end_lines d n) ≡ ended_by b n
   end_same n =
-      goes_on (disorder d) (line (lacks n js) NothingThere ∷ []) _ (ap not g.order) refl ∙ ap (λ x. first_of (line x NothingThere ∷ [])) (lacks_same n)
+      goes_on_lem (disorder d) (line (lacks n js) NothingThere ∷ []) _ (ap not g.order) refl ∙ ap (λ x. first_of (line x NothingThere ∷ [])) (lacks_same n)
 
   -- A REST
   rest_same : (p : ℕ) → first_of (rest_lines d p) ≡ rested_by b p
   rest_same p =
       let owes = owes_read p d.ledger.charge 1 (in_use d.ledger.feeds) ∙ ap (owes_in p) (sym r.feeds) in
-      goes_on (disorder d) (line (eqb (owes_at p 1 (in_use d.ledger.feeds)) 0) NothingThere ∷ []) _ (ap not g.order) refl
+      goes_on_lem (disorder d) (line (eqb (owes_at p 1 (in_use d.ledger.feeds)) 0) NothingThere ∷ []) _ (ap not g.order) refl
       ∙ ap (λ n. first_of (line (eqb n 0) NothingThere ∷ [])) owes
 
   -- A LIST
   list_same : (size : ℕ) → first_of (list_lines d size) ≡ listed_by b size
   list_same size =
-      goes_on (disorder d) (line (ltb size (numbers_a_job * d.ledger.table.count)) ShortBuffer ∷ []) _ (ap not g.order) refl
+      goes_on_lem (disorder d) (line (ltb size (numbers_a_job * d.ledger.table.count)) ShortBuffer ∷ []) _ (ap not g.order) refl
       ∙ ap (λ n. first_of (line (ltb size (numbers_a_job * n)) ShortBuffer ∷ [])) count_same
 
   once : (n : ℕ) → times n bs ≤ 1

@@ -10,7 +10,7 @@ use Rattle.answers.specs.declared.Refusal.TheVariants.{NotInOrder}
 use Rattle.answers.specs.declared.Verdict.{Verdict}
 use Rattle.answers.specs.declared.Verdict.TheVariants.{Yes, No}
 use Rattle.answers.specs.Answers.{first_of, is_yes}
-use Rattle.answers.proofs.Answers.{stops, goes_on, yes_is_not_no}
+use Rattle.answers.proofs.Answers.{stops, goes_on_lem, yes_is_not_no}
 use Rattle.desk.specs.declared.Desk.{Desk}
 use Rattle.desk.specs.State.{in_order}
 use Rattle.desk.specs.declared.Answer.{Answer}
@@ -36,7 +36,7 @@ module _ (d : Desk) (s : List ℕ) (size number lead : ℕ) where
   pub mesh_refused : (v : Verdict) → in_order d ≡ true → v ≡ first_of (mesh_lines s size) → is_yes v ≡ false
       → AskedMesh d s size number lead (record { desk = d; verdict = v })
   mesh_refused Yes fine e n = absurd (false≢true (sym n))
-  mesh_refused (No x) fine e n = mesh_stopped x (goes_on (disorder d) (mesh_lines s size) (No x) (ap not fine) (sym e))
+  mesh_refused (No x) fine e n = mesh_stopped x (goes_on_lem (disorder d) (mesh_lines s size) (No x) (ap not fine) (sym e))
 
   -- where none of its own holds, it is an ordinary ask
   pub mesh_asked : (w : ℕ) (r : Answer) → first_of (mesh_lines s size) ≡ Yes → w ≡ work_of (triangles_of s) → Asked d number w lead r → AskedMesh d s size number lead r
@@ -44,7 +44,7 @@ module _ (d : Desk) (s : List ℕ) (size number lead : ℕ) where
     where
       out : (b : Bool) → (disorder d).holds ≡ b → (x : Refusal) → first_of (disorder d ∷ mesh_lines s size) ≡ No x → r ≡ record { desk = d; verdict = No x }
       out true o x k = a.stopped x (stops (disorder d) _ o ∙ sym (stops (disorder d) (mesh_lines s size) o) ∙ k)
-      out false o x k = absurd (yes_is_not_no x (sym (goes_on (disorder d) (mesh_lines s size) Yes o h) ∙ k))
+      out false o x k = absurd (yes_is_not_no x (sym (goes_on_lem (disorder d) (mesh_lines s size) Yes o h) ∙ k))
 
 -- TWO OUTCOMES THAT THE CONTRACT ALLOWS ARE THE SAME
 pub asked_mesh_once : (d : Desk) (s : List ℕ) (size number lead : ℕ) (q r : Answer) → AskedMesh d s size number lead q → AskedMesh d s size number lead r → q ≡ r

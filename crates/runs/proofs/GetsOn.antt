@@ -11,7 +11,7 @@ use Rattle.lists.specs.Lists.{Each}
 use Rattle.lists.proofs.Tests.{both_made}
 use Rattle.answers.specs.declared.Who.{Who}
 use Rattle.answers.specs.declared.Verdict.TheVariants.{Yes}
-use Rattle.answers.proofs.Answers.{goes_on, no_line}
+use Rattle.answers.proofs.Answers.{goes_on_lem, no_line}
 use Rattle.desk.specs.declared.Desk.{Desk}
 use Rattle.desk.specs.State.{in_order}
 use Rattle.desk.specs.Calls.{step_of}
@@ -84,7 +84,7 @@ module _ (t : ℕ) (w : Written) (k : Live t w) (size : ℕ) (wide : longest ≤
       let on = part_on size most d w.cursor k.tells clock in
       let number : p.cursor.number ≤ most_number = subst (λ n. n ≤ most_number) (sym on.tells.job) (last_narrow (w.names ++ p.names) narrow) in
       let fits : length (as_line (first_due p.cursor)) ≤ longest = first_narrow p.cursor on.tells.order number in
-      goes_on _ _ _ (ap not order) (goes_on _ _ _ (ap not (both_made _ _ (eq-eqb _ _ clock) k.tells.order)) (goes_on _ _ _ (not_stuck p fits (part_long size most d w.cursor)) no_line))
+      goes_on_lem _ _ _ (ap not order) (goes_on_lem _ _ _ (ap not (both_made _ _ (eq-eqb _ _ clock) k.tells.order)) (goes_on_lem _ _ _ (not_stuck p fits (part_long size most d w.cursor)) no_line))
     where
       not_stuck : (p : Part) → length (as_line (first_due p.cursor)) ≤ longest → TooLong size p → eqb (length (bytes_of p.lines)) 0 && any_due p.cursor.due ≡ false
       not_stuck p fits long = go (eqb (length (bytes_of p.lines)) 0) refl (any_due p.cursor.due) refl
@@ -101,7 +101,7 @@ module _ (t : ℕ) (w : Written) (k : Live t w) (size : ℕ) (wide : longest ≤
   unfolding closed_of
   closing_gets_on narrow =
       let number : w.cursor.number ≤ most_number = subst (λ n. n ≤ most_number) (sym k.tells.job) (last_narrow w.names narrow) in
-      goes_on _ _ _ (ap not (ap (λ b. is_none w.cursor || b) k.tells.order ∙ or-true (is_none w.cursor))) (goes_on _ _ _ (closing_fits size w.cursor wide k.tells.order number) no_line)
+      goes_on_lem _ _ _ (ap not (ap (λ b. is_none w.cursor || b) k.tells.order ∙ or-true (is_none w.cursor))) (goes_on_lem _ _ _ (closing_fits size w.cursor wide k.tells.order number) no_line)
     where
       or-true : (b : Bool) → b || true ≡ true
       or-true true = refl

@@ -10,7 +10,7 @@ use Rattle.answers.specs.declared.Verdict.{Verdict}
 use Rattle.answers.specs.declared.Verdict.TheVariants.{Yes, No}
 use Rattle.answers.specs.declared.Refusal.TheVariants.{PastLast}
 use Rattle.answers.specs.Answers.{on_yes}
-use Rattle.answers.proofs.Answers.{stops, goes_on, no_line}
+use Rattle.answers.proofs.Answers.{stops, goes_on_lem, no_line}
 use Rattle.edf.specs.Step.{step, runner, ran}
 use Rattle.ledger.specs.declared.Ledger.{Ledger}
 use Rattle.ledger.specs.State.{InOrder}
@@ -44,7 +44,7 @@ pub stepped_taken : (l : Ledger) → ltb l.clock.0 last_instant ≡ true
     (record { ledger = rewritten l (step (book_of l)); verdict = Yes; who = who_is (ran (book_of l)).who; owes = ticks (ran (book_of l)).owes })
     (stepped_of l)
 unfolding stepped_of
-stepped_taken l h = sym (ap (answered l) (goes_on (last_line l) [] Yes (ap not h) no_line))
+stepped_taken l h = sym (ap (answered l) (goes_on_lem (last_line l) [] Yes (ap not h) no_line))
 
 -- THE ANSWER OF A STEP: the tick goes to the foremost piece
 pub front_stepped : (l : Ledger) (p : Piece) → InOrder l → p ≡ front_of (runner (book_of l)) → ltb l.clock.0 last_instant ≡ true

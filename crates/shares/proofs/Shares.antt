@@ -19,8 +19,8 @@ share_is s h =
     (leb-true _ _ t.0, leb-true _ _ u.0, leb-true _ _ u.1)
 
 -- a state may have any share
-pub share_in : (s : Share) → is_share s ≡ true → share_in s ≡ true
-share_in s h = go (is_none s) (is_share s) h
+pub share_in_lem : (s : Share) → is_share s ≡ true → share_in s ≡ true
+share_in_lem s h = go (is_none s) (is_share s) h
   where
     go : (a b : Bool) → b ≡ true → a || b ≡ true
     go true b e = refl

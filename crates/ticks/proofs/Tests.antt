@@ -8,8 +8,8 @@ use Rattle.lists.proofs.Tests.{both, both_made}
 use Rattle.ticks.specs.declared.Length.{Length}
 use Rattle.ticks.specs.Ticks.{from_one}
 
-pub from_one : (most : ℕ) (l : Length) → from_one most l ≡ true → (1 ≤ l.0) × (l.0 ≤ most)
-from_one most l h =
+pub from_one_lem : (most : ℕ) (l : Length) → from_one most l ≡ true → (1 ≤ l.0) × (l.0 ≤ most)
+from_one_lem most l h =
     let t = both (leb 1 l.0) (leb l.0 most) h in
     (leb-true _ _ t.0, leb-true _ _ t.1)
 

@@ -13,7 +13,7 @@ use Rattle.answers.specs.declared.Refusal.TheVariants.{DoesNotFit}
 use Rattle.answers.specs.declared.Verdict.TheVariants.{Yes, No}
 use Rattle.ledger.specs.State.{InOrder}
 use Rattle.ledger.specs.Books.{book_of}
-use Rattle.desk.proofs.InOrder.{in_order}
+use Rattle.desk.proofs.InOrder.{in_order_lem}
 use Rattle.reasons.specs.Reasons.{Tells, near_reason}
 use Rattle.desk.specs.Asking.{with_job}
 use Rattle.desk.proofs.Asking.{takes, taken_in_order, taken_book}
@@ -22,7 +22,7 @@ use Rattle.questions.proofs.explain.Statement.{statement}
 use Rattle.questions.proofs.explain.Tie as tie
 
 order : (c : tie.Start) → InOrder c.args.desk.ledger
-order c = in_order _ c.requires.sized c.requires.order
+order c = in_order_lem _ c.requires.sized c.requires.order
 
 tightest-requires : tie.Need-tightest-requires
 tightest-requires c κs =

@@ -6,7 +6,7 @@ use borrow.Author.Rules.{rules}
 use Rattle.answers.specs.declared.Verdict.TheVariants.{Yes, No}
 use Rattle.answers.specs.declared.Refusal.TheVariants.{NotInOrder}
 use Rattle.answers.specs.Answers.{first_of, on_yes}
-use Rattle.answers.proofs.Answers.{stops, goes_on, no_line}
+use Rattle.answers.proofs.Answers.{stops, goes_on_lem, no_line}
 use Rattle.desk.specs.Calls.{disorder}
 use Rattle.waveform.specs.Cursors.{begun}
 use Rattle.waveform.specs.Order.{none}
@@ -26,7 +26,7 @@ returns-2 : tie.Need-returns-2
 unfolding begun_of
 returns-2 c =
     let d = c.before.before.before.args.desk in
-    let v : first_of (disorder d ∷ []) ≡ Yes = goes_on (disorder d) [] Yes (ap not (sym c.before.before.in_order.ensures) ∙ c.before.if1.false) no_line in
+    let v : first_of (disorder d ∷ []) ≡ Yes = goes_on_lem (disorder d) [] Yes (ap not (sym c.before.before.in_order.ensures) ∙ c.before.if1.false) no_line in
     ap (λ k. record { cursor = k; verdict = Yes }) c.begin.ensures
     ∙ (λ i. record { cursor = on_yes (sym v i) (begun (clock_of d)) none; verdict = sym v i })
 

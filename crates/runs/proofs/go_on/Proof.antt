@@ -9,7 +9,7 @@ use Rattle.lists.proofs.Tests.{both}
 use Rattle.text.proofs.Texts.{put_length, put_in_front, put_in_front_next, front_untouched}
 use Rattle.answers.specs.declared.Verdict.TheVariants.{Yes}
 use Rattle.answers.specs.declared.Refusal.TheVariants.{ShortBuffer, NotInOrder}
-use Rattle.answers.proofs.Answers.{stops, goes_on, no_line}
+use Rattle.answers.proofs.Answers.{stops, goes_on_lem, no_line}
 use Rattle.desk.specs.State.{in_order}
 use Rattle.waveform.specs.Cursors.{any_due}
 use Rattle.runs.specs.Parts.{clock_of, ordered_at, part_of, stuck}
@@ -30,7 +30,7 @@ fine c = ap not (sym c.before.in_order.ensures) ∙ c.if1.false
 returns-2 : tie.Need-returns-2
 returns-2 c =
     let a = c.before.before.before.before.before.before.args in
-    let k = went_no (length a.out.now) a.most a.desk a.cursor NotInOrder (goes_on _ _ _ (fine c.before.before.before) (stops _ _ (ap not (sym c.before.before.ordered_at.ensures) ∙ c.before.if2.true))) in
+    let k = went_no (length a.out.now) a.most a.desk a.cursor NotInOrder (goes_on_lem _ _ _ (fine c.before.before.before) (stops _ _ (ap not (sym c.before.before.ordered_at.ensures) ∙ c.before.if2.true))) in
     (c.refused2.ensures ∙ k.0, front_untouched k.1)
 
 -- and so is the cursor, at its clock
@@ -55,7 +55,7 @@ returns-3 : tie.Need-returns-3
 returns-3 c =
     let a = c.before.before.before.before.before.before.before.before.before.before.before.before.before.args in
     let stop = short c.before.before ∙ c.before.if3.true in
-    let k = went_no (length a.out.now) a.most a.desk a.cursor ShortBuffer (goes_on _ _ _ (fine c.before.before.before.before.before.before.before.before.before.before) (goes_on _ _ _ (there c.before.before.before.before.before.before.before.before) (stops _ _ stop))) in
+    let k = went_no (length a.out.now) a.most a.desk a.cursor ShortBuffer (goes_on_lem _ _ _ (fine c.before.before.before.before.before.before.before.before.before.before) (goes_on_lem _ _ _ (there c.before.before.before.before.before.before.before.before) (stops _ _ stop))) in
     (c.refused3.ensures ∙ k.0, put_in_front c.before.before.before.before.before.before.carry.ensures.put (stuck_nothing _ stop ∙ k.1))
 
 same-length-2 : tie.Need-same-length-2
@@ -65,7 +65,7 @@ returns-4 : tie.Need-returns-4
 returns-4 c =
     let a = c.before.before.before.before.before.before.before.before.before.before.before.before.before.args in
     let p = c.before.before.before.before.before.before.carry.ensures in
-    let k = went_yes (length a.out.now) a.most a.desk a.cursor (goes_on _ _ _ (fine c.before.before.before.before.before.before.before.before.before.before) (goes_on _ _ _ (there c.before.before.before.before.before.before.before.before) (goes_on _ _ _ (short c.before.before ∙ c.before.if3.false) no_line))) in
+    let k = went_yes (length a.out.now) a.most a.desk a.cursor (goes_on_lem _ _ _ (fine c.before.before.before.before.before.before.before.before.before.before) (goes_on_lem _ _ _ (there c.before.before.before.before.before.before.before.before) (goes_on_lem _ _ _ (short c.before.before ∙ c.before.if3.false) no_line))) in
     ((λ i. record { desk = p.desk i; cursor = p.cursor i; verdict = Yes; bytes = put_in_front_next p.put i; steps = p.steps i }) ∙ k.0, put_in_front p.put k.1)
 
 pub go_on_spec : {M : Type 1} → statement M

@@ -6,7 +6,7 @@ use Rattle.answers.specs.declared.Verdict.TheVariants.{Yes}
 use Rattle.room.specs.Walk.{FitsSays}
 use Rattle.ledger.specs.State.{InOrder}
 use Rattle.ledger.specs.Books.{book_of}
-use Rattle.desk.proofs.InOrder.{in_order}
+use Rattle.desk.proofs.InOrder.{in_order_lem}
 use Rattle.edf.proofs.Reordered.{reordered_fits, reordered_sym}
 use Rattle.desk.specs.State.{with}
 use Rattle.desk.specs.Asking.{with_job, Judged}
@@ -16,7 +16,7 @@ use Rattle.desk.proofs.Desk.admit.Statement.{statement}
 use Rattle.desk.proofs.Desk.admit.Tie as tie
 
 order : (c : tie.Start) → InOrder c.args.self.ledger
-order c = in_order _ c.requires.sized c.requires.order
+order c = in_order_lem _ c.requires.sized c.requires.order
 
 fits-requires : tie.Need-fits-requires
 fits-requires c κs =

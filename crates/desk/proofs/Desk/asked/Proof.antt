@@ -7,10 +7,10 @@ use borrow.Author.Tests.{not-true, not-false}
 use Rattle.lists.proofs.Places.{length_mapped}
 use Rattle.jobs.specs.Jobs.{job}
 use Rattle.answers.specs.Answers.{first_of, is_yes}
-use Rattle.answers.proofs.Answers.{goes_on, is_yes_lem, goes_past, not_yes_before}
+use Rattle.answers.proofs.Answers.{goes_on_lem, is_yes_lem, goes_past, not_yes_before}
 use Rattle.ledger.specs.State.{Sized, InOrder}
 use Rattle.desk.specs.Asking.{ask_lines}
-use Rattle.desk.proofs.InOrder.{in_order}
+use Rattle.desk.proofs.InOrder.{in_order_lem}
 use Rattle.desk.proofs.Asking.{refused_request, passed_request}
 use Rattle.desk.proofs.Desk.asked.Statement.{statement}
 use Rattle.desk.proofs.Desk.asked.Tie as tie
@@ -19,7 +19,7 @@ sized : (c : tie.Start) → Sized c.args.self.ledger
 sized c = record { feeds = search (rules, length_mapped); jobs = search (rules, length_mapped) }
 
 order : (c : tie.Start) → InOrder c.args.self.ledger
-order c = in_order _ (sized c) c.requires.0
+order c = in_order_lem _ (sized c) c.requires.0
 
 returns : tie.Need-returns
 returns c =
@@ -28,7 +28,7 @@ returns c =
     let own = c.before.before.request-stops.ensures in
     let no = sym c.before.is_yes_lem.ensures ∙ not-true _ c.if1.true in
     refused_request a.self a.number a.work.0 a.lead.0 _
-    (own ∙ sym (goes_on _ _ _ (ap not start.requires.0) (not_yes_before _ _ (ap is_yes (sym own) ∙ no))))
+    (own ∙ sym (goes_on_lem _ _ _ (ap not start.requires.0) (not_yes_before _ _ (ap is_yes (sym own) ∙ no))))
     no
 
 -- what the lines say where the request's own pass
@@ -37,7 +37,7 @@ says c =
     let k = c.before in
     let own = k.before.before.request-stops.ensures in
     let yes = is_yes_lem _ (ap is_yes (sym own) ∙ sym k.before.is_yes_lem.ensures ∙ not-false _ k.if1.false) in
-    c.place-stops.ensures ∙ sym (goes_on _ _ _ (ap not k.before.before.before.requires.0) (goes_past _ _ yes))
+    c.place-stops.ensures ∙ sym (goes_on_lem _ _ _ (ap not k.before.before.before.requires.0) (goes_past _ _ yes))
 
 returns-2 : tie.Need-returns-2
 returns-2 c =

@@ -7,7 +7,7 @@ use Rattle.lists.proofs.Places.{length_mapped}
 use Rattle.answers.specs.Answers.{first_of, is_yes}
 use Rattle.answers.proofs.Answers.{is_yes_lem, yes_first, on_yes_lem, on_no}
 use Rattle.ledger.specs.State.{Sized, InOrder}
-use Rattle.desk.proofs.InOrder.{in_order}
+use Rattle.desk.proofs.InOrder.{in_order_lem}
 use Rattle.edf.specs.Calls.{ending}
 use Rattle.desk.specs.State.{book, with, rewritten}
 use Rattle.desk.specs.Calls.{end_lines, end_of}
@@ -23,7 +23,7 @@ yes : (c : tie.Else1) → is_yes (first_of (end_lines c.before.before.before.arg
 yes c = ap is_yes (sym c.before.before.end-stops.ensures) ∙ sym c.before.is_yes_lem.ensures ∙ not-false _ c.if1.false
 
 order : (c : tie.Else1) → InOrder c.before.before.before.args.self.ledger
-order c = in_order _ (sized c.before.before.before) (not-false _ (yes_first _ _ (is_yes_lem _ (yes c))).0)
+order c = in_order_lem _ (sized c.before.before.before) (not-false _ (yes_first _ _ (is_yes_lem _ (yes c))).0)
 
 returns : tie.Need-returns
 unfolding end_of

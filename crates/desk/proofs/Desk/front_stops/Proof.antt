@@ -9,7 +9,7 @@ use Rattle.ticks.specs.Ticks.{last_instant, most_charge}
 use Rattle.feeds.specs.Lines.{shape_lines}
 use Rattle.answers.specs.declared.Verdict.TheVariants.{Yes}
 use Rattle.answers.specs.Answers.{first_of, is_yes}
-use Rattle.answers.proofs.Answers.{stops, goes_on, goes_past, not_yes_before, is_yes_lem, no_line}
+use Rattle.answers.proofs.Answers.{stops, goes_on_lem, goes_past, not_yes_before, is_yes_lem, no_line}
 use Rattle.desk.proofs.Desk.front_stops.Statement.{statement}
 use Rattle.desk.proofs.Desk.front_stops.Tie as tie
 
@@ -37,12 +37,12 @@ read c = ap not (sym (reads c.before) ∙ not-false _ c.if2.false)
 returns-3 : tie.Need-returns-3
 returns-3 c =
     let e = c.before.before.before in
-    sym (goes_past _ _ (yes e.before.before.before) ∙ goes_on _ _ _ (read e) (stops _ _ (ap not (sym (low c.before) ∙ not-true _ c.if3.true))))
+    sym (goes_past _ _ (yes e.before.before.before) ∙ goes_on_lem _ _ _ (read e) (stops _ _ (ap not (sym (low c.before) ∙ not-true _ c.if3.true))))
 
 returns-4 : tie.Need-returns-4
 returns-4 c =
     let e = c.before.before.before in
-    sym (goes_past _ _ (yes e.before.before.before) ∙ goes_on _ _ _ (read e) (goes_on _ _ _ (ap not (sym (low c.before) ∙ not-false _ c.if3.false)) no_line))
+    sym (goes_past _ _ (yes e.before.before.before) ∙ goes_on_lem _ _ _ (read e) (goes_on_lem _ _ _ (ap not (sym (low c.before) ∙ not-false _ c.if3.false)) no_line))
 
 pub front_stops_spec : {M : Type 1} → statement M
 front_stops_spec =

@@ -12,7 +12,7 @@ use Rattle.listing.specs.Words.{words}
 use Rattle.answers.specs.Answers.{first_of, is_yes}
 use Rattle.answers.proofs.Answers.{is_yes_lem, yes_first, on_yes_lem, on_no}
 use Rattle.ledger.specs.State.{Sized, InOrder}
-use Rattle.desk.proofs.InOrder.{in_order}
+use Rattle.desk.proofs.InOrder.{in_order_lem}
 use Rattle.desk.specs.Calls.{list_lines, counted_of, listed_of}
 use Rattle.desk.proofs.Desk.list.Statement.{statement}
 use Rattle.desk.proofs.Desk.list.Tie as tie
@@ -27,7 +27,7 @@ yes : (c : tie.Else1) → is_yes (first_of (list_lines (start c).args.self (leng
 yes c = ap is_yes (sym c.before.before.list-stops.ensures) ∙ sym c.before.is_yes_lem.ensures ∙ not-false _ c.if1.false
 
 order : (c : tie.Else1) → InOrder (start c).args.self.ledger
-order c = in_order _ (sized (start c)) (not-false _ (yes_first _ _ (is_yes_lem _ (yes c))).0)
+order c = in_order_lem _ (sized (start c)) (not-false _ (yes_first _ _ (is_yes_lem _ (yes c))).0)
 
 returns : tie.Need-returns
 unfolding counted_of listed_of

@@ -7,7 +7,7 @@ use borrow.Author.Tests.{not-true, not-false, le-leb, lt-leb}
 use lib.Dec.{leb}
 use Rattle.lists.proofs.Tests.{both_made}
 use Rattle.ticks.specs.Ticks.{job_length, within, plus}
-use Rattle.answers.proofs.Answers.{stops, goes_on, no_line}
+use Rattle.answers.proofs.Answers.{stops, goes_on_lem, no_line}
 use Rattle.desk.proofs.Desk.request_stops.Statement.{statement}
 use Rattle.desk.proofs.Desk.request_stops.Tie as tie
 
@@ -34,23 +34,23 @@ returns c = sym (stops _ _ (ap not (lt-leb _ _ c.if1.true)))
 returns-2 : tie.Need-returns-2
 returns-2 c =
     let short = sym c.before.suits-job.ensures ∙ not-true _ c.if2.true in
-    sym (goes_on _ _ _ (numbered c.before.before) (stops _ _ (ap (λ b. not (b && job_length c.before.before.before.args.lead)) short)))
+    sym (goes_on_lem _ _ _ (numbered c.before.before) (stops _ _ (ap (λ b. not (b && job_length c.before.before.before.args.lead)) short)))
 
 returns-3 : tie.Need-returns-3
 returns-3 c =
     let short = sym c.before.suits-job2.ensures ∙ not-true _ c.if3.true in
     let k = c.before.before in
-    sym (goes_on _ _ _ (numbered k.before.before) (stops _ _ ((λ i. not (work-fits k i && short i)))))
+    sym (goes_on_lem _ _ _ (numbered k.before.before) (stops _ _ ((λ i. not (work-fits k i && short i)))))
 
 returns-4 : tie.Need-returns-4
 returns-4 c =
     let k = c.before.before.before in
-    sym (goes_on _ _ _ (numbered k.before.before.before.before) (goes_on _ _ _ (inside k) (stops _ _ (ap not (sym (far c.before) ∙ not-true _ c.if4.true)))))
+    sym (goes_on_lem _ _ _ (numbered k.before.before.before.before) (goes_on_lem _ _ _ (inside k) (stops _ _ (ap not (sym (far c.before) ∙ not-true _ c.if4.true)))))
 
 returns-5 : tie.Need-returns-5
 returns-5 c =
     let k = c.before.before.before in
-    sym (goes_on _ _ _ (numbered k.before.before.before.before) (goes_on _ _ _ (inside k) (goes_on _ _ _ (ap not (sym (far c.before) ∙ not-false _ c.if4.false)) no_line)))
+    sym (goes_on_lem _ _ _ (numbered k.before.before.before.before) (goes_on_lem _ _ _ (inside k) (goes_on_lem _ _ _ (ap not (sym (far c.before) ∙ not-false _ c.if4.false)) no_line)))
 
 pub request_stops_spec : {M : Type 1} → statement M
 request_stops_spec =

@@ -6,7 +6,7 @@ use borrow.Author.Tests.{not-true, not-false}
 use Rattle.lists.proofs.Places.{length_mapped}
 use Rattle.ledger.specs.State.{Sized}
 use Rattle.desk.specs.State.{in_order}
-use Rattle.desk.proofs.InOrder.{in_order}
+use Rattle.desk.proofs.InOrder.{in_order_lem}
 use Rattle.desk.proofs.Calls.{step_stopped, stepped_desk, step_by_serving}
 use Rattle.desk.proofs.Desk.step.Statement.{statement}
 use Rattle.desk.proofs.Desk.step.Tie as tie
@@ -15,10 +15,10 @@ sized : (c : tie.Start) → Sized c.args.self.ledger
 sized c = record { feeds = search (rules, length_mapped); jobs = search (rules, length_mapped) }
 
 fine : (c : tie.Else1) → in_order c.before.before.args.self ≡ true
-fine c = sym c.before.in_order.ensures ∙ not-false _ c.if1.false
+fine c = sym c.before.in_order_lem.ensures ∙ not-false _ c.if1.false
 
 returns : tie.Need-returns
-returns c = step_stopped c.before.before.args.self (sym c.before.in_order.ensures ∙ not-true _ c.if1.true)
+returns c = step_stopped c.before.before.args.self (sym c.before.in_order_lem.ensures ∙ not-true _ c.if1.true)
 
 returns-2 : tie.Need-returns-2
 returns-2 c =
@@ -31,4 +31,4 @@ returns-2 c =
     ∙ step_by_serving d (fine k)
 
 pub step_spec : {M : Type 1} → statement M
-step_spec = tie.close (tie.spec (λ c κs. search rules) returns (λ c κs. in_order _ (sized c.before.before) (fine c)) (λ c κs. search rules) returns-2)
+step_spec = tie.close (tie.spec (λ c κs. search rules) returns (λ c κs. in_order_lem _ (sized c.before.before) (fine c)) (λ c κs. search rules) returns-2)

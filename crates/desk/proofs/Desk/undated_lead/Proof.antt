@@ -14,7 +14,7 @@ use Rattle.edf.specs.Share.{at_share, deadline_at}
 use Rattle.shares.specs.Shares.{most_share}
 use Rattle.shares.proofs.Shares.{time_bounded}
 use Rattle.ledger.specs.State.{Sized, InOrder}
-use Rattle.desk.proofs.InOrder.{Beside, in_order, in_order_beside}
+use Rattle.desk.proofs.InOrder.{Beside, in_order_lem, in_order_beside}
 use Rattle.desk.proofs.Desk.undated_lead.Statement.{statement}
 use Rattle.desk.proofs.Desk.undated_lead.Tie as tie
 
@@ -22,7 +22,7 @@ sized : (c : tie.Start) → Sized c.args.self.ledger
 sized c = record { feeds = search (rules, length_mapped); jobs = search (rules, length_mapped) }
 
 order : (c : tie.Start) → InOrder c.args.self.ledger
-order c = in_order _ (sized c) c.requires.0
+order c = in_order_lem _ (sized c) c.requires.0
 
 beside : (c : tie.Start) → Beside c.args.self
 beside c = in_order_beside _ c.requires.0

@@ -6,7 +6,7 @@ use lib.Dec.{eqb}
 use lib.ListN.{length}
 use Rattle.answers.specs.declared.Verdict.TheVariants.{Yes}
 use Rattle.answers.specs.declared.Refusal.TheVariants.{ShortBuffer, NotInOrder}
-use Rattle.answers.proofs.Answers.{stops, goes_on, no_line}
+use Rattle.answers.proofs.Answers.{stops, goes_on_lem, no_line}
 use Rattle.text.proofs.Texts.{put_length, put_in_front, put_in_front_next, front_untouched}
 use Rattle.waveform.specs.Order.{ordered, is_none}
 use Rattle.waveform.specs.Parts.{stuck, closing_lines, closing_fitting}
@@ -43,7 +43,7 @@ returns-2 c =
     let a = c.before.before.before.before.before.before.before.before.before.args in
     let n = length a.out.now in
     let stop = short c.before ∙ c.if2.true in
-    let k = closed_no n a.cursor ShortBuffer (goes_on _ _ _ (fine c.before.before.before.before.before.before) (stops _ _ stop)) in
+    let k = closed_no n a.cursor ShortBuffer (goes_on_lem _ _ _ (fine c.before.before.before.before.before.before) (stops _ _ stop)) in
     (k.0, put_in_front c.before.before.before.before.write-end.ensures.0 (stuck_nothing _ _ stop ∙ k.1))
 
 same-length-2 : tie.Need-same-length-2
@@ -54,7 +54,7 @@ returns-3 c =
     let a = c.before.before.before.before.before.before.before.before.before.before.args in
     let n = length a.out.now in
     let w = c.before.before.before.before.before.write-end.ensures in
-    let k = closed_yes n a.cursor (goes_on _ _ _ (fine c.before.before.before.before.before.before.before) (goes_on _ _ _ (short c.before.before ∙ c.before.if2.false) no_line)) in
+    let k = closed_yes n a.cursor (goes_on_lem _ _ _ (fine c.before.before.before.before.before.before.before) (goes_on_lem _ _ _ (short c.before.before ∙ c.before.if2.false) no_line)) in
     ((λ i. record { cursor = w.1 i; verdict = Yes; bytes = put_in_front_next w.0 i }) ∙ k.0, put_in_front w.0 k.1)
 
 pub close_spec : {M : Type 1} → statement M
