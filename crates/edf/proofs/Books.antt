@@ -1,7 +1,7 @@
 -- Books themselves, with the moves as their calls, are a system that the mathematics follows; and the promises held against
 -- runs of it that can be told on one's fingers.
 use mathlib.Core.Path.{◌≡◌, refl, sym, subst}
-use mathlib.Core.Logic.{inl}
+use mathlib.Core.Logic.{inl, inr}
 use mathlib.Core.List.{List, [], ◌∷◌}
 use Prim.Native.Nat.{ℕ, pred, ◌<◌}
 use native.Mathlib.Omega.{arith}
@@ -138,3 +138,4 @@ not_the_old_one k = go k.live
   where
     go : Live 7 6 k.owes (taking again (ending 7 B2)) → ⊥
     go (inl e) = omega (arith, e.1)
+    go (inr x) = elim x [ ]
