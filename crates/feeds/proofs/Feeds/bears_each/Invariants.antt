@@ -1,0 +1,17 @@
+-- `feeds::Feeds::bears_each` meets its contract: from the end on every stretch has what it wants.
+use mathlib.Core.Path.{◌≡◌, sym, ap, ◌∙◌}
+use Prim.Native.Nat.{ℕ, ◌+◌, ◌-◌, ◌≤◌, ◌<◌}
+use native.Mathlib.Nat.{le_refl}
+use native.Mathlib.Omega.{arith}
+use borrow.Author.Rules.{rules}
+use borrow.Author.Tests.{ltb-true, ltb-false}
+use Rattle.feeds.specs.Feeds.{in_use}
+use Rattle.feeds.specs.Round.{demand}
+use Rattle.feeds.proofs.Stretches.{carries_made, carries_fails, enough_from}
+use Rattle.feeds.proofs.Feeds.bears_each.Given as goal
+
+abbrev pub invariant-loop-self : goal.invariant-loop-self
+invariant-loop-self l = (l.end.0 ≤ l.initial.end.0) × ((L : ℕ) → l.end.0 ≤ L → L < l.initial.end.0 → demand l.charge L (in_use l.self) ≤ L)
+
+abbrev pub decreases-loop-self : goal.decreases-loop-self
+decreases-loop-self l = l.end.0

@@ -1,0 +1,20 @@
+-- `jobs::Table::lowered` meets its contract: the jobs so far show it no more, the others are as they were.
+use mathlib.Core.Path.{◌≡◌, refl, ap}
+use Prim.Native.Nat.{◌+◌, ◌-◌, ◌≤◌, ◌<◌, ◌^◌}
+use native.Mathlib.Omega.{arith}
+use borrow.Author.Rules.{rules}
+use lib.ListN.{length}
+use Rattle.lists.specs.Lists.{filled}
+use Rattle.lists.proofs.Places.{length_mapped, each_live, changed}
+use Rattle.jobs.specs.Jobs.{most_jobs, no_job, live}
+use Rattle.jobs.specs.Figures.{owes_by, lowered}
+use Rattle.jobs.proofs.Places.{next_changed, all_changed}
+use Rattle.jobs.proofs.Table.lowered.Goals as goal
+
+pub loop-i-preserved : goal.loop-i-preserved
+loop-i-preserved c =
+    let loop = c.loop-i in (
+      omega arith,
+      loop.invariant.1,
+      next_changed c.args.self loop.table (lowered c.args.job) loop.i c.lowered-other.result c.requires.0 loop.invariant.2 c.loop-i-test.true c.lowered-other.ensures,
+    )

@@ -1,0 +1,19 @@
+-- `jobs::Table::place_of` meets its contract: the place is that among the jobs still to look at, counted from the first.
+use mathlib.Core.Path.{◌≡◌, sym, ap, ◌∙◌}
+use mathlib.Core.List.{◌∷◌}
+use Prim.Native.Nat.{◌+◌, ◌-◌, ◌≤◌}
+use native.Mathlib.Omega.{arith}
+use borrow.Author.Rules.{rules}
+use borrow.Author.Tests.{not-true, not-false}
+use lib.ListN.{length, get_or, drop}
+use Rattle.lists.proofs.Places.{length_mapped, next_live, no_more_live}
+use Rattle.jobs.specs.Jobs.{live, no_job}
+use Rattle.jobs.specs.Sorted.{place_of}
+use Rattle.jobs.proofs.Sorted.{place_here, place_past, place_none}
+use Rattle.jobs.proofs.Table.place_of.Given as goal
+
+abbrev pub invariant-loop-i : goal.invariant-loop-i
+invariant-loop-i l = (l.i ≤ l.count) × (place_of l.job (live l.self) ≡ l.i + place_of l.job (drop l.i (live l.self)))
+
+abbrev pub decreases-loop-i : goal.decreases-loop-i
+decreases-loop-i l = l.count - l.i

@@ -1,0 +1,17 @@
+-- `jobs::Table::rest_unused` meets its contract: the unused places are all zero exactly if those still to look at are.
+use mathlib.Core.Path.{◌≡◌, refl, sym, ◌∙◌}
+use Prim.Native.Nat.{◌-◌}
+use native.Mathlib.Omega.{arith}
+use borrow.Author.Rules.{rules}
+use borrow.Author.Tests.{not-true, not-false}
+use lib.ListN.{length, drop}
+use Rattle.lists.specs.Lists.{every}
+use Rattle.lists.proofs.Places.{length_mapped, next, no_more, every_fails, every_goes_on, every_passes}
+use Rattle.jobs.specs.Jobs.{most_jobs, unused_job, no_job}
+use Rattle.jobs.proofs.Table.rest_unused.Given as goal
+
+abbrev pub invariant-loop-i : goal.invariant-loop-i
+invariant-loop-i l = every unused_job (drop l.count l.self.jobs) ≡ every unused_job (drop l.i l.self.jobs)
+
+abbrev pub decreases-loop-i : goal.decreases-loop-i
+decreases-loop-i l = most_jobs - l.i
