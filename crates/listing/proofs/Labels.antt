@@ -101,13 +101,13 @@ label_inside Idle s f = inl (refl, omega arith)
 
 -- the bytes of a place in the list that it names are that part of it
 pub part_of :
-    (p q : Part) (s f l : Bor (List ℕ)) (e g : ℕ) → p ≡ q → lent p.list s f ≡ l → e ≡ p.from + p.size →
-    PartAt q s f (record { ref_ptr = (l.ref_ptr.0, p.from + l.ref_ptr.1); ghost_name = g; now = take (e - p.from) (drop p.from l.now) })
-part_of p q s f l e g same list long =
+    (p q : Part) (s f l : Bor (List ℕ)) (e : ℕ) → p ≡ q → lent p.list s f ≡ l → e ≡ p.from + p.size →
+    PartAt q s f (record { ref_ptr = (l.ref_ptr.0, p.from + l.ref_ptr.1); now = take (e - p.from) (drop p.from l.now) })
+part_of p q s f l e same list long =
     let size : e - p.from ≡ p.size = omega arith in
-    subst (λ r. PartAt r s f (record { ref_ptr = (l.ref_ptr.0, p.from + l.ref_ptr.1); ghost_name = g; now = take (e - p.from) (drop p.from l.now) })) same
+    subst (λ r. PartAt r s f (record { ref_ptr = (l.ref_ptr.0, p.from + l.ref_ptr.1); now = take (e - p.from) (drop p.from l.now) })) same
     (record {
       text = λ i. take (size i) (drop p.from (sym list i).now);
-      block = λ i. (sym list i).ptr.0;
-      offset = λ i. p.from + (sym list i).ptr.1;
+      block = λ i. (sym list i).ref_ptr.0;
+      offset = λ i. p.from + (sym list i).ref_ptr.1;
     })
