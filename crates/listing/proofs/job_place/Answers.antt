@@ -11,7 +11,16 @@ use Rattle.listing.proofs.Labels.{record_here, record_past, record_none}
 use Rattle.listing.proofs.job_place.Goals as goal
 
 pub returns-then-big_endian-number : goal.returns-then-big_endian-number
-returns-then-big_endian-number c = search rules
+returns-then-big_endian-number c =
+    let s = c.args.labels.now in
+    let n = c.args.number in
+    let k = c.loop-k.k in
+    let one : length s / record_bytes - k ≡ suc (length s / record_bytes - (k + 1)) = omega arith in
+    sym
+    (ap job_place
+    (c.loop-k.invariant
+    ∙ ap (λ m. record_from m s n k) one
+    ∙ record_here _ s n k (sym c.big_endian.ensures ∙ c.if-big_endian-number.true)))
 
 pub loop-k-preserved : goal.loop-k-preserved
 loop-k-preserved c =

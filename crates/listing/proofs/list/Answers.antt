@@ -15,7 +15,12 @@ pub loop-i-preserved : goal.loop-i-preserved
 loop-i-preserved c =
     let many : c.args.table.count ≡ length (live c.args.table) =
         sym (live_count c.args.table c.requires.0) in
-    let same : c.loop-i.i ≤ c.args.table.count → length c.loop-i.buffer ≡ length c.args.buffer.now =
-        λ h. let all = many in
-        written_length (live c.args.table) c.args.buffer.now c.loop-i.buffer c.loop-i.i c.loop-i.invariant.1 (omega arith) (omega (arith, h, c.requires.1)) in
-    same c.loop-i.invariant.0
+    let t = c.args.table in
+    let i = c.loop-i.i in
+    let all = many in
+    let job : get_or t.jobs i no_job ≡ get_or (live t) i no_job = sym (live_at t i c.loop-i-test.true) in (
+      omega arith,
+      c.put.ensures
+          ∙ ap (λ j. take (numbers_a_job * i) c.loop-i.buffer ++ (words_of j ++ drop (numbers_a_job * i + numbers_a_job) c.loop-i.buffer)) job
+          ∙ written_more (live t) c.args.buffer.now c.loop-i.buffer i c.loop-i.invariant.1 (omega (arith, c.loop-i-test.true, all)),
+    )

@@ -1,0 +1,17 @@
+-- `room::last_deadline` meets its contract: the latest so far and the jobs that are left make the whole.
+use mathlib.Core.Path.{◌≡◌, refl}
+use Prim.Native.Nat.{◌-◌, ◌≤◌}
+use native.Mathlib.Omega.{arith}
+use borrow.Author.Rules.{rules}
+use lib.ListN.{length, drop}
+use Rattle.lists.proofs.Places.{length_mapped, next_live, no_more_live}
+use Rattle.jobs.specs.Jobs.{live, no_job}
+use Rattle.room.specs.Ahead.{latest_of}
+use Rattle.room.proofs.Ahead.{latest_goes_on, latest_done}
+use Rattle.room.proofs.last_deadline.Given as goal
+
+abbrev pub invariant-loop-i : goal.invariant-loop-i
+invariant-loop-i l = (l.i ≤ l.count) × (latest_of (λ j. j.deadline) (live l.table) l.initial.last ≡ latest_of (λ j. j.deadline) (drop l.i (live l.table)) l.last)
+
+abbrev pub decreases-loop-i : goal.decreases-loop-i
+decreases-loop-i l = l.count - l.i
