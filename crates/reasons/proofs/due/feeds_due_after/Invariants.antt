@@ -1,0 +1,21 @@
+-- `reasons::due::feeds_due_after` meets its contract: up to the instant found so far nothing comes due, but for the feeds that are
+-- left to look at.
+use mathlib.Core.Path.{◌≡◌}
+use Prim.Native.Nat.{◌-◌, ◌≤◌, ◌<◌}
+use native.Mathlib.Nat.{le_refl}
+use native.Mathlib.Omega.{arith}
+use borrow.Author.Rules.{rules}
+use lib.ListN.{length, drop}
+use Rattle.lists.proofs.Places.{length_mapped, next_live, no_more_live, each_live}
+use Rattle.ticks.specs.declared.Length.{Length}
+use Rattle.ticks.specs.Ticks.{ticks}
+use Rattle.feeds.specs.Feeds.{in_use, no_feed, FeedIn}
+use Rattle.room.specs.Owed.{feed_owes}
+use Rattle.reasons.proofs.Until.{StillBut, still_first, still_next, still_last}
+use Rattle.reasons.proofs.due.feeds_due_after.Given as goal
+
+abbrev pub invariant-loop-i : goal.invariant-loop-i
+invariant-loop-i l = (l.i ≤ l.count) × (l.by.0 < l.next.0) × (l.next.0 ≤ l.initial.next.0) × ((charge : Length) → StillBut (feed_owes charge l.clock.0) l.by.0 (in_use l.feeds) l.next.0 (drop l.i (in_use l.feeds)))
+
+abbrev pub decreases-loop-i : goal.decreases-loop-i
+decreases-loop-i l = l.count - l.i

@@ -1,0 +1,19 @@
+-- `reasons::due::jobs_due_after` meets its contract: up to the instant found so far nothing comes due, but for the jobs that are
+-- left to look at.
+use mathlib.Core.Path.{◌≡◌}
+use Prim.Native.Nat.{◌-◌, ◌≤◌, ◌<◌}
+use native.Mathlib.Nat.{le_refl}
+use native.Mathlib.Omega.{arith}
+use borrow.Author.Rules.{rules}
+use lib.ListN.{length, drop}
+use Rattle.lists.proofs.Places.{length_mapped, next_live, no_more_live}
+use Rattle.jobs.specs.Jobs.{live, no_job}
+use Rattle.jobs.specs.Figures.{owes_by}
+use Rattle.reasons.proofs.Until.{StillBut, still_first, still_next, still_last}
+use Rattle.reasons.proofs.due.jobs_due_after.Given as goal
+
+abbrev pub invariant-loop-i : goal.invariant-loop-i
+invariant-loop-i l = (l.i ≤ l.count) × (l.by.0 < l.next.0) × (l.next.0 ≤ l.initial.next.0) × StillBut owes_by l.by.0 (live l.table) l.next.0 (drop l.i (live l.table))
+
+abbrev pub decreases-loop-i : goal.decreases-loop-i
+decreases-loop-i l = l.count - l.i
