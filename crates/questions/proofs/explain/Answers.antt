@@ -78,7 +78,7 @@ returns c =
           owed = said.owed ∙ sym (reordered_owed _ _ same r.at.0);
         } in
     let narrow : SFits w64 c.reason_at-reason.result.margin =
-        record { sfits = c.reason_at-reason.type-inv.1.1.1.1.1.1.0.1 } in
+        record { sfits = c.reason_at-reason.type_inv.1.1.1.1.1.1.0.1 } in
     let a = c.args in
     let r = c.tightest-debt.result in
     let time = ltb-false c.ticks_since.result.0 r.owed.0 (sym c.is_longer.ensures ∙ c.if-is_longer.false) in
