@@ -1,5 +1,5 @@
 -- When a cursor that is handed in is one of a run that is being written: its fields agree with each other.
-use Rattle.std.specs.Prelude.{Bool, false, cond, not, ◌||◌, [], ◌∷◌, ℕ, ◌+◌, leb, ltb, eqb}
+use Rattle.std.specs.Prelude.{Bool, false, cond, not, ◌||◌, [], ◌∷◌, ◌+◌, leb, ltb, eqb}
 use Rattle.lists.specs.Lists.{all_of}
 use Rattle.ticks.specs.Ticks.{last_instant}
 use Rattle.feeds.specs.Feeds.{most_feeds}

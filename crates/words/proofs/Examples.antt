@@ -4,11 +4,10 @@ use mathlib.Core.List.{List, [], ◌∷◌, map}
 use Prim.Native.String.{String}
 use lib.ListN.{replicate}
 use Rattle.words.specs.declared.Line.{Line}
-use Rattle.text.specs.declared.Found.{Found}
 use Rattle.text.specs.Text.{spelt}
 use Rattle.text.specs.Numbers.{is_digit, all_digits, counted, is_shaped, number_in}
 use Rattle.words.specs.Small.{small_of}
-use Rattle.text.specs.Fields.{same, found_in, line_end, parted}
+use Rattle.text.specs.Fields.{same, parted}
 use Rattle.words.specs.Lines.{word_in, one_of, three_of, four_of, go_of, said_of, meaning_of, line_of}
 
 -- each word with its numbers, and the largest of them

@@ -4,9 +4,8 @@ use mathlib.Core.Bool.{true, false}
 use mathlib.Core.List.{List, [], ◌∷◌}
 use Prim.Native.Nat.{ℕ, ◌+◌, ◌-◌}
 use Prim.Native.String.{String}
-use native.Mathlib.Nat.{le_refl, sub-zero}
-use lib.ListN.{length, take, drop, length-drop}
-use lib.Seq.{take_all}
+use native.Mathlib.Nat.{sub-zero}
+use lib.ListN.{length, take, drop}
 use Rattle.text.specs.declared.Found.{Found}
 use Rattle.text.specs.declared.Number.{Number}
 use Rattle.words.specs.declared.Small.{Small}

@@ -1,18 +1,9 @@
 -- `waveform::judge` meets its contract: what is left of the text is judged from the reading on as the whole was.
-use mathlib.Core.Path.{◌≡◌, refl, sym, ap, ◌∙◌}
-use mathlib.Core.Bool.{cond}
-use Prim.Native.Nat.{suc, ◌+◌, ◌-◌, ◌≤◌}
-use native.Mathlib.Omega.{arith}
-use native.Mathlib.Numerals.{add-one}
-use borrow.Author.Rules.{rules}
-use lib.ListN.{length, take, drop, drop_of_length-le}
-use Rattle.text.specs.Fields.{newline, lines_of}
-use Rattle.text.proofs.Fields.{Cut, cut_at}
-use Rattle.waveform.specs.declared.Outcome.TheVariants.{Wrong, Well}
-use Rattle.waveform.specs.Reading.{next}
-use Rattle.waveform.specs.Bytes.{says}
-use Rattle.waveform.specs.Texts.{is_dead, end_in, Reading, reading, line_read, end_read, judge, judged}
-use Rattle.waveform.proofs.Judging.{judge_cut, judge_tail, judge_end}
+use mathlib.Core.Path.{◌≡◌}
+use Prim.Native.Nat.{◌-◌, ◌≤◌}
+use lib.ListN.{length, drop}
+use Rattle.text.specs.Fields.{lines_of}
+use Rattle.waveform.specs.Texts.{reading, judge, judged}
 use Rattle.waveform.proofs.judge.Given as goal
 
 abbrev pub invariant-loop-from : goal.invariant-loop-from

@@ -3,7 +3,6 @@ use mathlib.Core.Path.{sym, ap, ◌∙◌}
 use mathlib.Core.Bool.{cond}
 use lib.Dec.{eqb}
 use lib.ListN.{get_or, drop}
-use borrow.Author.Rules.{rules}
 use borrow.Author.Tests.{eq-eqb, ne_eqb}
 use Rattle.text.specs.Numbers.{number_of}
 use Rattle.text.proofs.Fields.{rest_part}

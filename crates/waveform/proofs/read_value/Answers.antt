@@ -4,9 +4,6 @@ use mathlib.Core.Bool.{true, cond, ◌&&◌}
 use Prim.Native.Nat.{◌-◌}
 use lib.Dec.{leb, eqb}
 use lib.ListN.{length, get_or, take}
-use lib.Seq.{length-take-le}
-use native.Mathlib.Omega.{arith}
-use borrow.Author.Rules.{rules}
 use borrow.Author.Tests.{le-leb, lt-leb, eq-eqb, ne_eqb}
 use Rattle.text.specs.Numbers.{bits_of}
 use Rattle.text.specs.Fields.{space}
@@ -25,7 +22,7 @@ pub returns-then-s-gap-ne32 : goal.returns-then-s-gap-ne32
 unfolding value_of
 returns-then-s-gap-ne32 c =
     let long : leb 2 (length c.args.s.now) ≡ true =
-        le-leb 2 (length c.args.s.now) c.if-s-lt2.false in
+    le-leb 2 (length c.args.s.now) c.if-s-lt2.false in
     rw (long, ne_eqb _ _ c.if-s-gap-ne32.true)
 
 pub value-requires : goal.value-requires
@@ -35,9 +32,9 @@ pub returns : goal.returns
 unfolding value_of
 returns c =
     let long : leb 2 (length c.args.s.now) ≡ true =
-        le-leb 2 (length c.args.s.now) c.if-s-lt2.false in
+    le-leb 2 (length c.args.s.now) c.if-s-lt2.false in
     let s = c.args.s.now in
-    let test : leb 2 (length s) && eqb (get_or s (length s - 2) 0) space ≡ true = λ i. long i && eq-eqb (get_or s (length s - 2) 0) space c.if-s-lt2.false i in
+    let test : leb 2 (length s) && eqb (get_or s (length s - 2) 0) space ≡ true = λ i. long i && eq-eqb (get_or s (length s - 2) 0) space c.if-s-gap-ne32.false i in
     c.value.ensures
     ∙ ap (value_by (get_or s (length s - 1) 0)) c.read_bits.ensures
     ∙ sym (ap (λ x. cond x (value_by (get_or s (length s - 1) 0) (bits_of (take (length s - 2) s))) token.Other) test)

@@ -3,7 +3,6 @@ use mathlib.Core.Path.{sym, ◌∙◌}
 use native.Mathlib.Omega.{arith}
 use borrow.Author.Tests.{le-leb, lt-leb}
 use Rattle.words.specs.Small.{most_small, small_of}
-use borrow.Author.Rules.{rules}
 use Rattle.words.proofs.read_small.Goals as goal
 
 pub returns-in_default : goal.returns-in_default

@@ -2,15 +2,12 @@ use native.Mathlib.Omega.{arith}
 use lib.ListN.{length-append}
 use Rattle.text.proofs.Numbers.{digits_wide}
 use Rattle.text.proofs.Texts.{put_length, put_after}
-use borrow.Author.Rules.{rules}
 use Rattle.sayings.proofs.put.asked.Goals as goal
 
--- src/put.rt:48:5
 pub verdict-requires : goal.verdict-requires
 verdict-requires c =
     let p = c.worded-a.ensures in
     (omega (arith, digits_wide c.args.number (omega arith), simp length-append at p.next, put_length p, c.requires), omega arith)
 
--- src/put.rt:43:1
 pub returns : goal.returns
 returns c = put_after c.worded-a.ensures c.verdict.ensures

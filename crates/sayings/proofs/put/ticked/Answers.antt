@@ -1,19 +1,15 @@
 use native.Mathlib.Omega.{arith}
 use Rattle.text.proofs.Numbers.{digits_wide}
 use Rattle.text.proofs.Texts.{put_length, put_after}
-use borrow.Author.Rules.{rules}
 use Rattle.sayings.proofs.put.ticked.Goals as goal
 
--- src/put.rt:57:36
 pub number-a-requires : goal.number-a-requires
-number-a-requires c = search rules
+number-a-requires c = omega (arith, digits_wide c.args.instant (omega arith))
 
--- src/put.rt:57:5
 pub worded-requires : goal.worded-requires
 worded-requires c =
     let p = c.number-a.ensures in
     omega (arith, digits_wide c.args.instant (omega arith), p.next, put_length p, c.requires)
 
--- src/put.rt:52:1
 pub returns : goal.returns
 returns c = put_after c.number-a.ensures c.worded.ensures

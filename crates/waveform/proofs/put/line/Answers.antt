@@ -3,7 +3,6 @@ use native.Mathlib.Omega.{arith}
 use Rattle.text.proofs.Texts.{put_length, put_after}
 use Rattle.waveform.specs.Texts.{as_line}
 use Rattle.waveform.proofs.Lengths.{line_length}
-use borrow.Author.Rules.{rules}
 use Rattle.waveform.proofs.put.line.Goals as goal
 
 pub said-to-requires : goal.said-to-requires

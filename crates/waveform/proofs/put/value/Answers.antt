@@ -1,8 +1,5 @@
 -- `waveform::put::value` meets its contract.
-use native.Mathlib.Omega.{arith}
-use Rattle.text.proofs.Texts.{put_length, put_after}
-use Rattle.waveform.proofs.Lengths.{value_length}
-use borrow.Author.Rules.{rules}
+use Rattle.text.proofs.Texts.{put_after}
 use Rattle.waveform.proofs.put.value.Goals as goal
 
 pub returns : goal.returns

@@ -1,7 +1,6 @@
 -- `waveform::put::width` meets its contract: each line counted.
 use native.Mathlib.Omega.{arith}
 use Rattle.waveform.proofs.Lengths.{line_width, job_width, feed_width}
-use borrow.Author.Rules.{rules}
 use Rattle.waveform.proofs.put.width.Goals as goal
 
 pub returns-in-Head : goal.returns-in-Head

@@ -3,7 +3,6 @@ use mathlib.Core.Path.{◌≡◌, sym, ap, ◌∙◌}
 use mathlib.Core.Bool.{Bool, not, ◌||◌}
 use mathlib.Core.List.{List, ◌∷◌}
 use lib.Dec.{eqb}
-use borrow.Author.Rules.{rules}
 use borrow.Author.Tests.{ne_eqb, eq-eqb, le-leb, lt-leb}
 use Rattle.lists.specs.Lists.{all_of}
 use Rattle.lists.proofs.Tests.{passes, fails, last}
@@ -29,18 +28,18 @@ pub returns-then-value : goal.returns-then-value
 unfolding ordered_before
 returns-then-value c =
     let quiet : (r : Bool) (rest : List Bool) → r ≡ all_of rest → r ≡ all_of (eqb c.args.self.since c.args.self.clock ∷ eqb c.args.self.number 0 ∷ eqb c.args.self.position 0 ∷ rest) =
-        λ r. λ rest. λ h. passes _ _ _ (eq-eqb _ _ c.if-self.false)
-        (passes _ _ _ (eq-eqb _ _ c.if-self-ne0.false)
-        (passes _ _ _ (eq-eqb _ _ c.if-self-ne0-2.false) h)) in
+    λ r. λ rest. λ h. passes _ _ _ (eq-eqb _ _ c.if-self.false)
+    (passes _ _ _ (eq-eqb _ _ c.if-self-ne0.false)
+    (passes _ _ _ (eq-eqb _ _ c.if-self-ne0-2.false) h)) in
     quiet _ _ (fails _ _ (ap not (sym c.value.ensures ∙ c.if-value.true)))
 
 pub returns-then-self-gt-HEADS : goal.returns-then-self-gt-HEADS
 unfolding ordered_before
 returns-then-self-gt-HEADS c =
     let quiet : (r : Bool) (rest : List Bool) → r ≡ all_of rest → r ≡ all_of (eqb c.args.self.since c.args.self.clock ∷ eqb c.args.self.number 0 ∷ eqb c.args.self.position 0 ∷ rest) =
-        λ r. λ rest. λ h. passes _ _ _ (eq-eqb _ _ c.if-self.false)
-        (passes _ _ _ (eq-eqb _ _ c.if-self-ne0.false)
-        (passes _ _ _ (eq-eqb _ _ c.if-self-ne0-2.false) h)) in
+    λ r. λ rest. λ h. passes _ _ _ (eq-eqb _ _ c.if-self.false)
+    (passes _ _ _ (eq-eqb _ _ c.if-self-ne0.false)
+    (passes _ _ _ (eq-eqb _ _ c.if-self-ne0-2.false) h)) in
     quiet _ _
     (passes _ _ _ (ap not (sym c.value.ensures ∙ c.if-value.false)) (fails _ _ (lt-leb _ _ c.if-self-gt-HEADS.true)))
 
@@ -48,9 +47,9 @@ pub returns-then-self-ge-HEADS : goal.returns-then-self-ge-HEADS
 unfolding ordered_before
 returns-then-self-ge-HEADS c =
     let quiet : (r : Bool) (rest : List Bool) → r ≡ all_of rest → r ≡ all_of (eqb c.args.self.since c.args.self.clock ∷ eqb c.args.self.number 0 ∷ eqb c.args.self.position 0 ∷ rest) =
-        λ r. λ rest. λ h. passes _ _ _ (eq-eqb _ _ c.if-self.false)
-        (passes _ _ _ (eq-eqb _ _ c.if-self-ne0.false)
-        (passes _ _ _ (eq-eqb _ _ c.if-self-ne0-2.false) h)) in
+    λ r. λ rest. λ h. passes _ _ _ (eq-eqb _ _ c.if-self.false)
+    (passes _ _ _ (eq-eqb _ _ c.if-self-ne0.false)
+    (passes _ _ _ (eq-eqb _ _ c.if-self-ne0-2.false) h)) in
     quiet _ _
     (passes _ _ _ (ap not (sym c.value.ensures ∙ c.if-value.false))
     (passes _ _ _ (le-leb _ _ c.if-self-gt-HEADS.false)
@@ -60,9 +59,9 @@ pub returns : goal.returns
 unfolding ordered_before
 returns c =
     let quiet : (r : Bool) (rest : List Bool) → r ≡ all_of rest → r ≡ all_of (eqb c.args.self.since c.args.self.clock ∷ eqb c.args.self.number 0 ∷ eqb c.args.self.position 0 ∷ rest) =
-        λ r. λ rest. λ h. passes _ _ _ (eq-eqb _ _ c.if-self.false)
-        (passes _ _ _ (eq-eqb _ _ c.if-self-ne0.false)
-        (passes _ _ _ (eq-eqb _ _ c.if-self-ne0-2.false) h)) in
+    λ r. λ rest. λ h. passes _ _ _ (eq-eqb _ _ c.if-self.false)
+    (passes _ _ _ (eq-eqb _ _ c.if-self-ne0.false)
+    (passes _ _ _ (eq-eqb _ _ c.if-self-ne0-2.false) h)) in
     quiet _ _
     (passes _ _ _ (ap not (sym c.value.ensures ∙ c.if-value.false))
     (passes _ _ _ (le-leb _ _ c.if-self-gt-HEADS.false)

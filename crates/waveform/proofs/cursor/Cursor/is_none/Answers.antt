@@ -1,7 +1,6 @@
 -- `waveform::cursor::Cursor::is_none` meets its contract: each return goes by the tests that led there.
 use mathlib.Core.Path.{refl, sym, ap, ◌∙◌}
 use mathlib.Core.Bool.{not}
-use borrow.Author.Rules.{rules}
 use borrow.Author.Tests.{ne_eqb, eq-eqb}
 use Rattle.lists.specs.Lists.{all_of}
 use Rattle.lists.proofs.Tests.{passes, fails, last}

@@ -1,6 +1,5 @@
 -- `waveform::cursor::Cursor::since_by` meets its contract.
 use mathlib.Core.Path.{sym, ◌∙◌}
-use borrow.Author.Rules.{rules}
 use Rattle.waveform.specs.Cursors.{since_by}
 use Rattle.waveform.proofs.cursor.Cursor.since_by.Goals as goal
 

@@ -1,7 +1,6 @@
 -- `waveform::cursor::Due::less` meets its contract: each return goes by the tests that led there.
 use borrow.Author.Tests.{lt-ltb, le-ltb}
 use Rattle.waveform.specs.Cursors.{one_less}
-use borrow.Author.Rules.{rules}
 use Rattle.waveform.proofs.cursor.Due.less.Goals as goal
 
 pub returns-then-self-lt-HEADS : goal.returns-then-self-lt-HEADS
