@@ -2,8 +2,8 @@
 use mathlib.Core.Path.{◌≡◌, refl, ◌∙◌, ap}
 use mathlib.Core.Logic.{inl, inr, ◌↔◌}
 use mathlib.Core.Bool.{cond}
-use Prim.Native.Nat.{ℕ, zero, suc, ◌+◌, ◌-◌, ◌*◌, ◌/◌, ◌≤◌, ◌<◌}
-use native.Mathlib.Nat.{le_refl, mul-le-mul_left, div-eq_of_lt, div-zero, div-mul-le_self, add-div_right, zero-div, le-div_iff_mul-le, mul-zero, sub-zero}
+use Prim.Native.Nat.{ℕ, suc, ◌+◌, ◌-◌, ◌*◌, ◌/◌, ◌≤◌, ◌<◌}
+use native.Mathlib.Nat.{le_refl, mul-le-mul_left, div-eq_of_lt, add-div_right, zero-div, le-div_iff_mul-le, mul-zero, sub-zero}
 use native.Mathlib.Omega.{arith}
 use lib.Dec.{leb}
 use Rattle.edf.specs.Book.{Plan, Feed}

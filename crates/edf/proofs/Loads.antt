@@ -1,6 +1,5 @@
 -- What the laws of load and of the horizon speak of: a round that carries the plans, an instant past everything, feeds that an
 -- opening accepts.
-use mathlib.Core.Path.{◌≡◌}
 use mathlib.Core.List.{List}
 use Prim.Native.Nat.{ℕ, ◌*◌, ◌/◌, ◌≤◌, ◌∣◌}
 use Rattle.lists.specs.Lists.{eq, total, Each}

@@ -5,7 +5,7 @@ use mathlib.Core.Bool.{cond}
 use Prim.Native.Nat.{ℕ, zero, suc, ◌+◌, ◌-◌, ◌≤◌, ◌<◌}
 use native.Mathlib.Omega.{arith}
 use lib.Dec.{le→leb, lt→ltb, leb→le, ltb→lt}
-use lib.IntN.{ℤ, pos, negsuc, sub_ℕ, ◌-ℤ◌}
+use lib.IntN.{pos, negsuc, sub_ℕ, ◌-ℤ◌}
 use lib.Signed.{mag, ◌≤ℤ◌, ◌<ℤ◌}
 use Rattle.lists.proofs.Tests.{ltb_elim}
 

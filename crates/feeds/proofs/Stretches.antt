@@ -8,7 +8,7 @@ use native.Mathlib.Decide.{dec_le, ℕ_discrete}
 use native.Mathlib.Nat.{mul-le-mul_left, mul-le-mul_right, le_of_mul-le-mul_right, mul-div_cancel', div-mul-le_self, div-eq_of_lt, mul-zero}
 use native.Mathlib.Omega.{arith}
 use borrow.Author.Tests.{leb-true, le-leb, eqb-true}
-use Rattle.lists.specs.Lists.{every, Each, total}
+use Rattle.lists.specs.Lists.{every, Each}
 use Rattle.lists.proofs.Lists.{each_imp, each_both, each_of_map, total_zero, total_le, total_le_all, total_scale}
 use Rattle.lists.proofs.Numbers.{div_mono}
 use Rattle.lists.proofs.Places.{each_of_every}

@@ -1,13 +1,13 @@
 -- The figures: done afresh, and kept by adding and taking away.
-use mathlib.Core.Path.{◌≡◌, refl, sym, ap, ap₂, subst, ◌∙◌}
+use mathlib.Core.Path.{◌≡◌, refl, sym, ap, ap₂, ◌∙◌}
 use mathlib.Core.Bool.{Bool, true, false, cond}
-use mathlib.Core.List.{List, [], ◌∷◌, ◌++◌, map, map-map, map-id}
+use mathlib.Core.List.{List, ◌∷◌, ◌++◌, map, map-map, map-id}
 use Prim.Native.Nat.{ℕ, ◌+◌, ◌-◌, ◌*◌, ◌≤◌, ◌<◌}
 use native.Mathlib.Omega.{arith}
 use lib.Dec.{leb, eqb}
 use lib.ListN.{length, get_or, take, drop, set, length-map}
 use borrow.Author.Tests.{le-leb, lt-leb}
-use Rattle.lists.specs.Lists.{Each, total, bit}
+use Rattle.lists.specs.Lists.{Each, bit}
 use Rattle.lists.proofs.Lists.{each, each_imp, each_map, total_map}
 use Rattle.lists.proofs.Places.{each_get_or}
 use Rattle.lists.proofs.Maps.{out, total_out, total_set, total_put, total_bound, map_same, map-append, map_take, map_drop, map_out, map_set}

@@ -8,7 +8,7 @@ use native.Mathlib.Omega.{arith}
 use lib.Dec.{eqb}
 use lib.ListN.{length, get_or, drop}
 use borrow.Author.Tests.{eqb-true, eq-eqb}
-use Rattle.lists.specs.Lists.{total, Each, every}
+use Rattle.lists.specs.Lists.{Each, every}
 use Rattle.lists.proofs.Tests.{eqb_elim}
 use Rattle.lists.proofs.Lists.{each, each_imp, total_zero}
 use Rattle.lists.proofs.Places.{each_get_or}

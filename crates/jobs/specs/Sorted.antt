@@ -1,5 +1,5 @@
 -- The order of the table: earliest deadline first, lower number first on equal ones.
-use Rattle.std.specs.Prelude.{◌≡◌, Bool, true, cond, ◌&&◌, ◌||◌, List, [], ◌∷◌, ℕ, suc, ◌≤◌, ◌<◌, ltb, eqb}
+use Rattle.std.specs.Prelude.{◌≡◌, Bool, true, cond, ◌&&◌, List, [], ◌∷◌, ℕ, suc, ◌≤◌, ◌<◌, ltb, eqb}
 use Rattle.lists.specs.Lists.{Each}
 use Rattle.jobs.specs.declared.Job.{Job}
 

@@ -3,7 +3,6 @@ use mathlib.Core.Path.{◌≡◌, ap}
 use mathlib.Core.Bool.{true}
 use Prim.Native.Nat.{ℕ, ◌<◌}
 use native.Mathlib.Nat.{mod-lt}
-use native.Mathlib.Omega.{arith}
 use borrow.Author.Tests.{ltb-true, lt-ltb, eqb-true, eq-eqb}
 use Rattle.ticks.specs.Ticks.{most_feed, ticks}
 use Rattle.lists.proofs.Tests.{all_of_lem, all_of_made}

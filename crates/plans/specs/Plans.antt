@@ -2,7 +2,7 @@
 use Rattle.std.specs.Prelude.{Bool, [], ◌∷◌, ℕ, ◌+◌, ◌-◌, ◌*◌, ◌/◌, ◌%◌, ◌≤◌, ◌<◌, ltb, eqb}
 use Rattle.lists.specs.Lists.{all_of}
 use Rattle.ticks.specs.declared.Length.{Length}
-use Rattle.ticks.specs.Ticks.{most_feed, most_round, most_charge, feed_length, from_one, ticks}
+use Rattle.ticks.specs.Ticks.{most_feed, most_charge, feed_length, from_one, ticks}
 use Rattle.plans.specs.declared.Plan.{Plan}
 
 -- the most that a piece may owe: the most work and the highest charge

@@ -1,8 +1,7 @@
 -- `feeds::taken` meets its contract: the places so far hold the feeds so far, the others are all zero.
 use mathlib.Core.Path.{◌≡◌, sym, ap, ◌∙◌}
-use Prim.Native.Nat.{◌-◌, ◌/◌, ◌≤◌}
+use Prim.Native.Nat.{◌/◌, ◌≤◌}
 use native.Mathlib.Omega.{arith}
-use borrow.Author.Rules.{rules}
 use lib.ListN.{length, get_or, take, set}
 use lib.Seq.{take_all}
 use Rattle.lists.specs.Lists.{filled}
@@ -16,19 +15,19 @@ use Rattle.feeds.proofs.taken.Goals as goal
 pub offset_bounds-feeds-i : goal.offset_bounds-feeds-i
 offset_bounds-feeds-i c =
     let few : length c.args.list.now / numbers_a_feed ≤ most_feeds =
-        (shape_yes (length c.args.list.now) c.requires).1 in
+    (shape_yes (length c.args.list.now) c.requires).1 in
     omega (arith, few)
 
 pub bounds-feeds-i : goal.bounds-feeds-i
 bounds-feeds-i c =
     let few : length c.args.list.now / numbers_a_feed ≤ most_feeds =
-        (shape_yes (length c.args.list.now) c.requires).1 in
+    (shape_yes (length c.args.list.now) c.requires).1 in
     omega (arith, few)
 
 pub loop-i-preserved : goal.loop-i-preserved
 loop-i-preserved c =
     let few : length c.args.list.now / numbers_a_feed ≤ most_feeds =
-        (shape_yes (length c.args.list.now) c.requires).1 in
+    (shape_yes (length c.args.list.now) c.requires).1 in
     let list = c.args.list.now in
     let i = c.loop-i.i in
     let fs = feeds_in list in

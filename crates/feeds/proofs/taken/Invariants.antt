@@ -1,16 +1,10 @@
 -- `feeds::taken` meets its contract: the places so far hold the feeds so far, the others are all zero.
-use mathlib.Core.Path.{◌≡◌, sym, ap, ◌∙◌}
-use Prim.Native.Nat.{◌-◌, ◌/◌, ◌≤◌}
-use native.Mathlib.Omega.{arith}
-use borrow.Author.Rules.{rules}
-use lib.ListN.{length, get_or, take, set}
-use lib.Seq.{take_all}
+use mathlib.Core.Path.{◌≡◌}
+use Prim.Native.Nat.{◌-◌, ◌≤◌}
+use lib.ListN.{take}
 use Rattle.lists.specs.Lists.{filled}
-use Rattle.lists.proofs.Places.{filled_next}
-use Rattle.feeds.specs.Feeds.{most_feeds, numbers_a_feed, no_feed}
+use Rattle.feeds.specs.Feeds.{most_feeds, no_feed}
 use Rattle.feeds.specs.Lines.{feeds_in}
-use Rattle.feeds.proofs.Lines.{shape_yes}
-use Rattle.feeds.proofs.Lent.{feeds_in_length, feed_in_at}
 use Rattle.feeds.proofs.taken.Given as goal
 
 abbrev pub invariant-loop-i : goal.invariant-loop-i

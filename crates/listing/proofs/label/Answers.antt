@@ -1,11 +1,7 @@
 -- `listing::label` meets its contract: the part that is handed back lies at the place, in the list that it names.
-use mathlib.Core.Path.{refl, ap}
-use mathlib.Core.Bool.{cond}
 use mathlib.Core.Logic.{⊎_elim}
 use native.Mathlib.Omega.{arith}
-use borrow.Author.Rules.{rules}
-use borrow.Author.Tests.{eq-eqb, ne_eqb}
-use Rattle.listing.proofs.Labels.{Inside, label_inside, part_of}
+use Rattle.listing.proofs.Labels.{Inside, label_inside}
 use Rattle.listing.proofs.label.Goals as goal
 
 pub slice_bounds-result-end : goal.slice_bounds-result-end

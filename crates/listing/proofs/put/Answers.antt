@@ -1,8 +1,5 @@
 -- `listing::put` meets its contract: four stores, one after the other.
-use native.Mathlib.Omega.{arith}
-use lib.ListN.{length-set}
 use Rattle.listing.proofs.Buffer.{put_four}
-use borrow.Author.Rules.{rules}
 use Rattle.listing.proofs.put.Goals as goal
 
 pub returns : goal.returns

@@ -1,6 +1,5 @@
 -- `mesh::read` meets its contract: each return goes by the tests that led there.
 use mathlib.Core.Path.{sym, ap, ◌∙◌}
-use borrow.Author.Rules.{rules}
 use borrow.Author.Tests.{lt-ltb, le-ltb, eq-eqb, ne_eqb}
 use Rattle.answers.specs.declared.Verdict.TheVariants.{Yes}
 use Rattle.answers.specs.Answers.{first_of}

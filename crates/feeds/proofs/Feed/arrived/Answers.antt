@@ -1,5 +1,4 @@
 -- `feeds::Feed::arrived` meets its contract: its figure is what its piece owes then.
-use borrow.Author.Rules.{rules}
 use Rattle.feeds.specs.Feeds.{owing}
 use Rattle.feeds.specs.Pieces.{arrived}
 use Rattle.feeds.proofs.Feed.arrived.Goals as goal

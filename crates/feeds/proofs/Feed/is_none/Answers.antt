@@ -1,6 +1,5 @@
 -- `feeds::Feed::is_none` meets its contract: each return goes by the tests that led there.
 use mathlib.Core.Path.{sym, ◌∙◌}
-use borrow.Author.Rules.{rules}
 use borrow.Author.Tests.{not-true, not-false}
 use Rattle.lists.proofs.Tests.{passes, fails, last}
 use Rattle.feeds.specs.Feeds.{unused_feed}

@@ -1,17 +1,11 @@
 -- `feeds::Feeds::all_to_the_next` meets its contract: every piece is due so exactly if those still to look at are.
-use mathlib.Core.Path.{◌≡◌, refl, sym, ◌∙◌}
-use mathlib.Core.Bool.{Bool}
-use Prim.Native.Nat.{◌-◌, ◌≤◌}
+use mathlib.Core.Path.{◌≡◌, sym, ◌∙◌}
 use native.Mathlib.Omega.{arith}
 use borrow.Author.Rules.{rules}
 use borrow.Author.Tests.{not-true, not-false}
-use lib.ListN.{length, drop}
-use Rattle.lists.specs.Lists.{every}
+use lib.ListN.{length}
 use Rattle.lists.proofs.Places.{length_mapped, next_live, no_more_live, every_fails, every_goes_on, every_passes}
-use Rattle.plans.specs.Plans.{to_the_next}
-use Rattle.feeds.specs.declared.Feed.{Feed}
-use Rattle.feeds.specs.Feeds.{in_use, no_feed}
-use Rattle.feeds.proofs.Feeds.all_to_the_next.Invariants.{to_next}
+use Rattle.feeds.specs.Feeds.{no_feed}
 use Rattle.feeds.proofs.Feeds.all_to_the_next.Goals as goal
 
 pub returns-then-not-to_the_next : goal.returns-then-not-to_the_next

@@ -1,13 +1,9 @@
 -- `feeds::Feeds::all_within` meets its contract: the feeds are all within exactly if those still to look at are.
-use mathlib.Core.Path.{◌≡◌, refl, sym, ◌∙◌}
+use mathlib.Core.Path.{◌≡◌}
 use Prim.Native.Nat.{◌-◌, ◌≤◌}
-use native.Mathlib.Omega.{arith}
-use borrow.Author.Rules.{rules}
-use borrow.Author.Tests.{not-true, not-false}
-use lib.ListN.{length, drop}
+use lib.ListN.{drop}
 use Rattle.lists.specs.Lists.{every}
-use Rattle.lists.proofs.Places.{length_mapped, next_live, no_more_live, every_fails, every_goes_on, every_passes}
-use Rattle.feeds.specs.Feeds.{feed_in, in_use, no_feed}
+use Rattle.feeds.specs.Feeds.{feed_in, in_use}
 use Rattle.feeds.proofs.Feeds.all_within.Given as goal
 
 abbrev pub invariant-loop-i : goal.invariant-loop-i

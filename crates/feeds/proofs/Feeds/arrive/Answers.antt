@@ -1,14 +1,10 @@
 -- `feeds::Feeds::arrive` meets its contract: the feeds so far have their pieces, the others are as they were.
-use mathlib.Core.Path.{◌≡◌, refl, sym, ap, ◌∙◌}
-use mathlib.Core.List.{map}
-use Prim.Native.Nat.{◌-◌, ◌≤◌}
+use mathlib.Core.Path.{◌≡◌, sym, ap, ◌∙◌}
 use native.Mathlib.Omega.{arith}
-use borrow.Author.Rules.{rules}
-use lib.ListN.{length, get_or, set, length-map}
+use lib.ListN.{length, get_or, set}
 use lib.Seq.{get_or-take}
-use Rattle.lists.specs.Lists.{filled}
-use Rattle.lists.proofs.Places.{length_mapped, each_live, changed, changed_all, filled_changed_next}
-use Rattle.feeds.specs.Feeds.{most_feeds, no_feed, in_use, FeedIn}
+use Rattle.lists.proofs.Places.{filled_changed_next}
+use Rattle.feeds.specs.Feeds.{most_feeds, no_feed, in_use}
 use Rattle.feeds.specs.Pieces.{arrived}
 use Rattle.feeds.proofs.Passing.{tidy_many}
 use Rattle.feeds.proofs.Feeds.arrive.Goals as goal

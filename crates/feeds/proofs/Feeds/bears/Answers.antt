@@ -1,16 +1,13 @@
 -- `feeds::Feeds::bears` meets its contract: where every piece is due when the next one comes, the round decides.
 use mathlib.Core.Path.{◌≡◌, sym, ap, subst, ◌∙◌}
 use mathlib.Core.Bool.{not}
-use Prim.Native.Nat.{ℕ, ◌≤◌, ◌<◌}
+use Prim.Native.Nat.{◌≤◌}
 use native.Mathlib.Nat.{le_refl}
 use lib.Dec.{ltb}
-use borrow.Author.Rules.{rules}
-use Rattle.lists.specs.Lists.{every}
 use Rattle.lists.proofs.Tests.{ltb_elim}
 use Rattle.ticks.specs.Ticks.{most_round}
-use Rattle.plans.specs.Plans.{to_the_next}
 use Rattle.feeds.specs.Feeds.{in_use}
-use Rattle.feeds.specs.Round.{IsRound, periods, round_of, demand, carries}
+use Rattle.feeds.specs.Round.{IsRound, periods, demand, carries}
 use Rattle.feeds.proofs.Round.{round_found}
 use Rattle.feeds.proofs.Stretches.{carries_made, carries_fails, round_decides}
 use Rattle.feeds.proofs.Feeds.bears.Goals as goal
@@ -18,8 +15,8 @@ use Rattle.feeds.proofs.Feeds.bears.Goals as goal
 pub returns-then-all_to_the_next : goal.returns-then-all_to_the_next
 returns-then-all_to_the_next c =
     let is-round : IsRound c.args.round.0 (periods (in_use c.args.self)) =
-        let same = ap (λ l. l.0) c.requires.3 in
-        subst (λ r. IsRound r (periods (in_use c.args.self))) (sym same) (round_found _ (subst (◌≤ most_round) same c.requires.2)) in
+    let same = ap (λ l. l.0) c.requires.3 in
+    subst (λ r. IsRound r (periods (in_use c.args.self))) (sym same) (round_found _ (subst (◌≤ most_round) same c.requires.2)) in
     let a = c.args.charge in
     let R = c.args.round.0 in
     let fs = in_use c.args.self in

@@ -1,13 +1,7 @@
 -- `feeds::Feeds::bears_each` meets its contract: from the end on every stretch has what it wants.
-use mathlib.Core.Path.{◌≡◌, sym, ap, ◌∙◌}
-use Prim.Native.Nat.{ℕ, ◌+◌, ◌-◌, ◌≤◌, ◌<◌}
-use native.Mathlib.Nat.{le_refl}
-use native.Mathlib.Omega.{arith}
-use borrow.Author.Rules.{rules}
-use borrow.Author.Tests.{ltb-true, ltb-false}
+use Prim.Native.Nat.{ℕ, ◌≤◌, ◌<◌}
 use Rattle.feeds.specs.Feeds.{in_use}
 use Rattle.feeds.specs.Round.{demand}
-use Rattle.feeds.proofs.Stretches.{carries_made, carries_fails, enough_from}
 use Rattle.feeds.proofs.Feeds.bears_each.Given as goal
 
 abbrev pub invariant-loop-self : goal.invariant-loop-self

@@ -1,12 +1,11 @@
 -- `feeds::Feeds::demand` meets its contract: what is added up so far and what the feeds that are left want make the whole.
 use mathlib.Core.Path.{◌≡◌, ap}
-use Prim.Native.Nat.{◌+◌, ◌*◌, ◌-◌, ◌≤◌}
+use Prim.Native.Nat.{◌+◌, ◌≤◌}
 use native.Mathlib.Omega.{arith}
 use borrow.Author.Rules.{rules}
 use lib.ListN.{length, get_or, drop}
-use Rattle.ticks.specs.Ticks.{most_feed, most_round, ticks}
-use Rattle.lists.proofs.Places.{length_mapped, next_live, no_more_live}
-use Rattle.plans.specs.Plans.{most_piece, stretch}
+use Rattle.lists.proofs.Places.{length_mapped, next_live}
+use Rattle.plans.specs.Plans.{stretch}
 use Rattle.feeds.specs.Feeds.{FeedIn, in_use, no_feed}
 use Rattle.feeds.specs.Round.{demand}
 use Rattle.feeds.proofs.Limits.{feed_in_use}
@@ -15,17 +14,17 @@ use Rattle.feeds.proofs.Feeds.demand.Goals as goal
 pub stretch-sum-requires : goal.stretch-sum-requires
 stretch-sum-requires c =
     let few : c.args.self.count ≤ length c.args.self.feeds =
-        let long : length c.args.self.feeds ≡ 16 = search (rules, length_mapped) in
-        omega (arith, c.requires.0.few) in
+    let long : length c.args.self.feeds ≡ 16 = search (rules, length_mapped) in
+    omega (arith, c.requires.0.few) in
     let here : FeedIn (get_or c.args.self.feeds c.loop-i.i no_feed) =
-        feed_in_use c.args.self c.loop-i.i c.requires.0.within c.loop-i-test.true few in
+    feed_in_use c.args.self c.loop-i.i c.requires.0.within c.loop-i-test.true few in
     let p = c.requires in (here, p.1, p.2)
 
 pub loop-i-preserved : goal.loop-i-preserved
 loop-i-preserved c =
     let few : c.args.self.count ≤ length c.args.self.feeds =
-        let long : length c.args.self.feeds ≡ 16 = search (rules, length_mapped) in
-        omega (arith, c.requires.0.few) in
+    let long : length c.args.self.feeds ≡ 16 = search (rules, length_mapped) in
+    omega (arith, c.requires.0.few) in
     let self = c.args.self in
     let a = c.args.charge in
     let L = c.args.stretch.0 in

@@ -1,15 +1,11 @@
 -- `feeds::Feeds::demand` meets its contract: what is added up so far and what the feeds that are left want make the whole.
-use mathlib.Core.Path.{◌≡◌, ap}
+use mathlib.Core.Path.{◌≡◌}
 use Prim.Native.Nat.{◌+◌, ◌*◌, ◌-◌, ◌≤◌}
-use native.Mathlib.Omega.{arith}
-use borrow.Author.Rules.{rules}
-use lib.ListN.{length, get_or, drop}
-use Rattle.ticks.specs.Ticks.{most_feed, most_round, ticks}
-use Rattle.lists.proofs.Places.{length_mapped, next_live, no_more_live}
-use Rattle.plans.specs.Plans.{most_piece, stretch}
-use Rattle.feeds.specs.Feeds.{FeedIn, in_use, no_feed}
+use lib.ListN.{drop}
+use Rattle.ticks.specs.Ticks.{most_feed, most_round}
+use Rattle.plans.specs.Plans.{most_piece}
+use Rattle.feeds.specs.Feeds.{in_use}
 use Rattle.feeds.specs.Round.{demand}
-use Rattle.feeds.proofs.Limits.{feed_in_use}
 use Rattle.feeds.proofs.Feeds.demand.Given as goal
 
 abbrev pub invariant-loop-i : goal.invariant-loop-i

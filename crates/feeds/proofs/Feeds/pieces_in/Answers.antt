@@ -1,14 +1,11 @@
 -- `feeds::Feeds::pieces_in` meets its contract: the pieces are all in order exactly if those still to look at are.
-use mathlib.Core.Path.{◌≡◌, refl, sym, ◌∙◌}
-use Prim.Native.Nat.{◌-◌, ◌≤◌}
+use mathlib.Core.Path.{◌≡◌, sym, ◌∙◌}
 use native.Mathlib.Omega.{arith}
 use borrow.Author.Rules.{rules}
 use borrow.Author.Tests.{not-true, not-false}
-use lib.ListN.{length, drop}
-use Rattle.lists.specs.Lists.{every}
+use lib.ListN.{length}
 use Rattle.lists.proofs.Places.{length_mapped, next_live, no_more_live, every_fails, every_goes_on, every_passes}
-use Rattle.feeds.specs.Feeds.{in_use, no_feed}
-use Rattle.feeds.specs.Pieces.{piece_in}
+use Rattle.feeds.specs.Feeds.{no_feed}
 use Rattle.feeds.proofs.Limits.{feed_in_use}
 use Rattle.feeds.proofs.Feeds.pieces_in.Goals as goal
 

@@ -1,13 +1,9 @@
 -- `feeds::Feeds::rest_unused` meets its contract: the unused places are all zero exactly if those still to look at are.
-use mathlib.Core.Path.{◌≡◌, refl, sym, ◌∙◌}
+use mathlib.Core.Path.{◌≡◌}
 use Prim.Native.Nat.{◌-◌, ◌≤◌}
-use native.Mathlib.Omega.{arith}
-use borrow.Author.Rules.{rules}
-use borrow.Author.Tests.{not-true, not-false}
-use lib.ListN.{length, drop}
+use lib.ListN.{drop}
 use Rattle.lists.specs.Lists.{every}
-use Rattle.lists.proofs.Places.{length_mapped, next, no_more, every_fails, every_goes_on, every_passes}
-use Rattle.feeds.specs.Feeds.{most_feeds, unused_feed, no_feed}
+use Rattle.feeds.specs.Feeds.{most_feeds, unused_feed}
 use Rattle.feeds.proofs.Feeds.rest_unused.Given as goal
 
 abbrev pub invariant-loop-i : goal.invariant-loop-i

@@ -3,7 +3,6 @@ use mathlib.Core.Path.{sym, ◌∙◌}
 use borrow.Author.Tests.{not-true, not-false, eq-eqb, ne_eqb}
 use Rattle.lists.proofs.Tests.{passes, fails, last}
 use Rattle.jobs.specs.Jobs.{unused_job}
-use borrow.Author.Rules.{rules}
 use Rattle.jobs.proofs.Job.is_none.Goals as goal
 
 pub returns-then-self-ne0 : goal.returns-then-self-ne0

@@ -1,6 +1,5 @@
 -- `jobs::Job::owes_by` meets its contract, by whether the deadline has come.
 use mathlib.Core.Path.{sym, ap, ◌∙◌}
-use borrow.Author.Rules.{rules}
 use borrow.Author.Tests.{ltb-true, ltb-false}
 use Rattle.ticks.specs.Ticks.{ticks}
 use Rattle.jobs.proofs.Figures.{owes_by_in, owes_by_out}

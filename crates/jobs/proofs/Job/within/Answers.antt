@@ -1,12 +1,9 @@
 -- `jobs::Job::within` meets its contract: each return goes by the tests that led there.
-use Prim.Native.Nat.{◌<◌}
 use mathlib.Core.Path.{sym, ap, ◌∙◌}
-use native.Mathlib.Omega.{arith}
-use borrow.Author.Tests.{not-true, not-false, lt-leb, le-leb, ltb-true}
+use borrow.Author.Tests.{not-true, not-false, lt-leb, le-leb}
 use Rattle.lists.proofs.Tests.{passes, fails, last}
 use Rattle.ticks.specs.Ticks.{job_length}
 use Rattle.jobs.specs.Jobs.{job_in}
-use borrow.Author.Rules.{rules}
 use Rattle.jobs.proofs.Job.within.Goals as goal
 
 pub returns-then-self-lt-LOWEST : goal.returns-then-self-lt-LOWEST

@@ -1,13 +1,11 @@
 -- `jobs::Table::all_within` meets its contract: the jobs are all in order exactly if those still to look at are.
-use mathlib.Core.Path.{◌≡◌, refl, sym, ◌∙◌}
-use Prim.Native.Nat.{◌-◌}
+use mathlib.Core.Path.{◌≡◌, sym, ◌∙◌}
 use native.Mathlib.Omega.{arith}
 use borrow.Author.Rules.{rules}
 use borrow.Author.Tests.{not-true, not-false}
-use lib.ListN.{length, drop}
-use Rattle.lists.specs.Lists.{every}
+use lib.ListN.{length}
 use Rattle.lists.proofs.Places.{length_mapped, next_live, no_more_live, every_fails, every_goes_on, every_passes}
-use Rattle.jobs.specs.Jobs.{job_in, live, no_job}
+use Rattle.jobs.specs.Jobs.{no_job}
 use Rattle.jobs.proofs.Table.all_within.Goals as goal
 
 pub returns-then-not-within : goal.returns-then-not-within

@@ -4,7 +4,6 @@ use mathlib.Core.List.{◌++◌}
 use Prim.Native.Nat.{ℕ, ◌<◌}
 use native.Mathlib.Numerals.{add-one}
 use native.Mathlib.Omega.{arith}
-use borrow.Author.Rules.{rules}
 use lib.ListN.{get_or, take, drop}
 use Rattle.lists.proofs.Maps.{out}
 use Rattle.jobs.specs.declared.Table.{Table}
@@ -18,55 +17,55 @@ use Rattle.jobs.proofs.Table.end.Goals as goal
 pub offset_bounds-self-at : goal.offset_bounds-self-at
 offset_bounds-self-at c =
     let table : Table =
-        c.args.self in
+    c.args.self in
     let at : ℕ =
-        c.in-At.at in
+    c.in-At.at in
     let found : FoundAt c.args.number at (live table) × (at < table.count) =
-        found_live table _ _ c.requires.0 (sym c.find.ensures ∙ c.in-At.is) in
+    found_live table _ _ c.requires.0 (sym c.find.ensures ∙ c.in-At.is) in
     omega (arith, found.1, c.requires.0.few)
 
 pub bounds-self-at : goal.bounds-self-at
 bounds-self-at c =
     let table : Table =
-        c.args.self in
+    c.args.self in
     let at : ℕ =
-        c.in-At.at in
+    c.in-At.at in
     let found : FoundAt c.args.number at (live table) × (at < table.count) =
-        found_live table _ _ c.requires.0 (sym c.find.ensures ∙ c.in-At.is) in
+    found_live table _ _ c.requires.0 (sym c.find.ensures ∙ c.in-At.is) in
     omega (arith, found.1, c.requires.0.few)
 
 pub owing_less-requires : goal.owing_less-requires
 owing_less-requires c =
     let table : Table =
-        c.args.self in
+    c.args.self in
     let at : ℕ =
-        c.in-At.at in
+    c.in-At.at in
     let found : FoundAt c.args.number at (live table) × (at < table.count) =
-        found_live table _ _ c.requires.0 (sym c.find.ensures ∙ c.in-At.is) in
+    found_live table _ _ c.requires.0 (sym c.find.ensures ∙ c.in-At.is) in
     let owed : (get_or (live table) at no_job).owed.0 ≡ (get_or table.jobs at no_job).owed.0 =
-        ap (λ j. j.owed.0) (live_at table at found.1) in
+    ap (λ j. j.owed.0) (live_at table at found.1) in
     (c.requires.0, found.1, c.requires.1, omega (arith, owed))
 
 pub without-requires : goal.without-requires
 without-requires c =
     let table : Table =
-        c.args.self in
+    c.args.self in
     let at : ℕ =
-        c.in-At.at in
+    c.in-At.at in
     let found : FoundAt c.args.number at (live table) × (at < table.count) =
-        found_live table _ _ c.requires.0 (sym c.find.ensures ∙ c.in-At.is) in
+    found_live table _ _ c.requires.0 (sym c.find.ensures ∙ c.in-At.is) in
     rw c.owing_less.ensures (less_tidy table c.requires.0 at _ found.1, omega (arith, less_count table c.requires.0 at (get_or table.jobs at no_job).owed.0 found.1, found.1))
 
 pub returns-in-At : goal.returns-in-At
 returns-in-At c =
     let table : Table =
-        c.args.self in
+    c.args.self in
     let at : ℕ =
-        c.in-At.at in
+    c.in-At.at in
     let found : FoundAt c.args.number at (live table) × (at < table.count) =
-        found_live table _ _ c.requires.0 (sym c.find.ensures ∙ c.in-At.is) in
+    found_live table _ _ c.requires.0 (sym c.find.ensures ∙ c.in-At.is) in
     let owed : (get_or (live table) at no_job).owed.0 ≡ (get_or table.jobs at no_job).owed.0 =
-        ap (λ j. j.owed.0) (live_at table at found.1) in
+    ap (λ j. j.owed.0) (live_at table at found.1) in
     let js = live table in
     c.without.ensures
     ∙ ap (λ t. table_of (out at (live t))) c.owing_less.ensures

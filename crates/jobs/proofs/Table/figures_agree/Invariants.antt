@@ -1,16 +1,11 @@
 -- `jobs::Table::figures_agree` meets its contract: the figures all agree exactly if the pass from here on says so.
-use mathlib.Core.Path.{◌≡◌, sym, ap, ◌∙◌}
-use mathlib.Core.List.{◌∷◌}
-use Prim.Native.Nat.{◌+◌, ◌*◌, ◌-◌, ◌≤◌}
-use native.Mathlib.Omega.{arith}
-use borrow.Author.Rules.{rules}
-use borrow.Author.Tests.{not-true, not-false}
-use lib.ListN.{length, get_or, drop}
+use mathlib.Core.Path.{◌≡◌}
+use Prim.Native.Nat.{◌*◌, ◌-◌, ◌≤◌}
+use lib.ListN.{drop}
 use Rattle.lists.specs.Lists.{every}
-use Rattle.lists.proofs.Places.{length_mapped, next_live, no_more_live, each_live}
-use Rattle.jobs.specs.Jobs.{live, no_job}
-use Rattle.jobs.specs.Figures.{most_owed, Modest, figure_agrees}
-use Rattle.jobs.proofs.InDeadlineOrder.{chain, chain_end, chain_past, chain_stop, chain_figures}
+use Rattle.jobs.specs.Jobs.{live}
+use Rattle.jobs.specs.Figures.{most_owed, figure_agrees}
+use Rattle.jobs.proofs.InDeadlineOrder.{chain}
 use Rattle.jobs.proofs.Table.figures_agree.Given as goal
 
 abbrev pub invariant-loop-i : goal.invariant-loop-i

@@ -1,13 +1,8 @@
 -- `jobs::Table::find` meets its contract: the job is found exactly where it is found among those still to look at.
-use mathlib.Core.Path.{◌≡◌, refl, sym, ap, ◌∙◌}
-use Prim.Native.Nat.{◌+◌, ◌-◌}
-use native.Mathlib.Omega.{arith}
-use native.Mathlib.Numerals.{add-one}
-use borrow.Author.Rules.{rules}
-use lib.ListN.{length, get_or, drop}
-use Rattle.lists.proofs.Places.{length_mapped, next_live, no_more_live}
-use Rattle.jobs.specs.Jobs.{live, no_job, found_in}
-use Rattle.jobs.proofs.Numbers.{found_here, found_past, found_none}
+use mathlib.Core.Path.{◌≡◌}
+use Prim.Native.Nat.{◌-◌}
+use lib.ListN.{drop}
+use Rattle.jobs.specs.Jobs.{live, found_in}
 use Rattle.jobs.proofs.Table.find.Given as goal
 
 abbrev pub invariant-loop-i : goal.invariant-loop-i

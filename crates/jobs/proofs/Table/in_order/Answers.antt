@@ -11,7 +11,6 @@ use Rattle.jobs.specs.Figures.{Modest}
 use Rattle.jobs.proofs.Limits.{job_in_lem}
 use Rattle.jobs.proofs.Sorted.{rising_sorted}
 use Prim.Native.Nat.{◌<◌}
-use borrow.Author.Rules.{rules}
 use Rattle.jobs.proofs.Table.in_order.Goals as goal
 
 pub returns-then-self-gt-MOST : goal.returns-then-self-gt-MOST

@@ -1,14 +1,10 @@
 -- `jobs::Table::lowered` meets its contract: the jobs so far show it no more, the others are as they were.
-use mathlib.Core.Path.{◌≡◌, refl, ap}
-use Prim.Native.Nat.{◌+◌, ◌-◌, ◌≤◌, ◌<◌, ◌^◌}
-use native.Mathlib.Omega.{arith}
-use borrow.Author.Rules.{rules}
-use lib.ListN.{length}
+use mathlib.Core.Path.{◌≡◌}
+use Prim.Native.Nat.{◌-◌, ◌≤◌}
 use Rattle.lists.specs.Lists.{filled}
-use Rattle.lists.proofs.Places.{length_mapped, each_live, changed}
+use Rattle.lists.proofs.Places.{changed}
 use Rattle.jobs.specs.Jobs.{most_jobs, no_job, live}
-use Rattle.jobs.specs.Figures.{owes_by, lowered}
-use Rattle.jobs.proofs.Places.{next_changed, all_changed}
+use Rattle.jobs.specs.Figures.{lowered}
 use Rattle.jobs.proofs.Table.lowered.Given as goal
 
 abbrev pub invariant-loop-i : goal.invariant-loop-i

@@ -1,18 +1,16 @@
 -- `jobs::Table::no_mark_twice` meets its contract: the jobs passed so far have their marks set, and no number stands twice among
 -- them.
-use mathlib.Core.Path.{◌≡◌, refl, sym, ap, subst, ◌∙◌}
+use mathlib.Core.Path.{◌≡◌, sym, ap, subst, ◌∙◌}
 use mathlib.Core.List.{[], ◌∷◌, ◌++◌}
-use Prim.Native.Nat.{ℕ, ◌+◌, ◌-◌, ◌%◌, ◌≤◌, ◌<◌}
-use native.Mathlib.Nat.{mod-lt}
+use Prim.Native.Nat.{◌+◌, ◌%◌, ◌≤◌}
 use native.Mathlib.Numerals.{add-one}
 use native.Mathlib.Omega.{arith}
 use borrow.Author.Rules.{rules}
 use lib.ListN.{length, get_or, set, take, length-set}
 use lib.Seq.{take-suc, take_all, length-take-le}
 use Rattle.lists.specs.Lists.{Each}
-use Rattle.lists.proofs.Tests.{false_not_true}
 use Rattle.lists.proofs.Places.{length_mapped}
-use Rattle.jobs.specs.Jobs.{live, no_job, times, distinct}
+use Rattle.jobs.specs.Jobs.{live, no_job, times}
 use Rattle.jobs.proofs.Marks.{marks_of, Set, set_more, not_set_is_new}
 use Rattle.jobs.proofs.Numbers.{once_distinct, times_taken}
 use Rattle.jobs.proofs.Places.{live_at}
@@ -21,8 +19,8 @@ use Rattle.jobs.proofs.Table.no_mark_twice.Goals as goal
 pub loop-i-preserved : goal.loop-i-preserved
 loop-i-preserved c =
     let few : c.args.self.count ≤ length c.args.self.jobs =
-        let long : length c.args.self.jobs ≡ 64 = search (rules, length_mapped) in
-        omega arith in
+    let long : length c.args.self.jobs ≡ 64 = search (rules, length_mapped) in
+    omega arith in
     let t = c.args.self in
     let js = live t in
     let i = c.loop-i.i in
@@ -42,8 +40,8 @@ loop-i-preserved c =
 pub returns : goal.returns
 returns c =
     let few : c.args.self.count ≤ length c.args.self.jobs =
-        let long : length c.args.self.jobs ≡ 64 = search (rules, length_mapped) in
-        omega arith in
+    let long : length c.args.self.jobs ≡ 64 = search (rules, length_mapped) in
+    omega arith in
     let t = c.args.self in
     let js = live t in
     let many : length js ≡ t.count = length-take-le t.count t.jobs few in

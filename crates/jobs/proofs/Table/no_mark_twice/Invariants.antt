@@ -1,21 +1,11 @@
 -- `jobs::Table::no_mark_twice` meets its contract: the jobs passed so far have their marks set, and no number stands twice among
 -- them.
-use mathlib.Core.Path.{◌≡◌, refl, sym, ap, subst, ◌∙◌}
-use mathlib.Core.List.{[], ◌∷◌, ◌++◌}
-use Prim.Native.Nat.{ℕ, ◌+◌, ◌-◌, ◌%◌, ◌≤◌, ◌<◌}
-use native.Mathlib.Nat.{mod-lt}
-use native.Mathlib.Numerals.{add-one}
-use native.Mathlib.Omega.{arith}
-use borrow.Author.Rules.{rules}
-use lib.ListN.{length, get_or, set, take, length-set}
-use lib.Seq.{take-suc, take_all, length-take-le}
+use mathlib.Core.Path.{◌≡◌}
+use Prim.Native.Nat.{ℕ, ◌-◌, ◌≤◌}
+use lib.ListN.{length, take}
 use Rattle.lists.specs.Lists.{Each}
-use Rattle.lists.proofs.Tests.{false_not_true}
-use Rattle.lists.proofs.Places.{length_mapped}
-use Rattle.jobs.specs.Jobs.{live, no_job, times, distinct}
-use Rattle.jobs.proofs.Marks.{marks_of, Set, set_more, not_set_is_new}
-use Rattle.jobs.proofs.Numbers.{once_distinct, times_taken}
-use Rattle.jobs.proofs.Places.{live_at}
+use Rattle.jobs.specs.Jobs.{live, times}
+use Rattle.jobs.proofs.Marks.{marks_of, Set}
 use Rattle.jobs.proofs.Table.no_mark_twice.Given as goal
 
 abbrev pub invariant-loop-i : goal.invariant-loop-i

@@ -1,9 +1,9 @@
 -- `jobs::Table::numbers_differ` meets its contract: no number stands twice exactly if none does among the jobs still to
 -- look at, and a job's number stands behind it exactly if it stands among those behind it still to look at.
-use mathlib.Core.Path.{◌≡◌, refl, sym, ap, ◌∙◌}
+use mathlib.Core.Path.{◌≡◌, sym, ap, ◌∙◌}
 use mathlib.Core.Bool.{not}
 use mathlib.Core.List.{◌∷◌}
-use Prim.Native.Nat.{◌+◌, ◌-◌}
+use Prim.Native.Nat.{◌+◌}
 use native.Mathlib.Omega.{arith}
 use borrow.Author.Rules.{rules}
 use borrow.Author.Tests.{eq-eqb, ne_eqb}
@@ -17,9 +17,9 @@ pub returns-then-self-k : goal.returns-then-self-k
 unfolding lacks
 returns-then-self-k c =
     let here : distinct (live c.args.self) ≡ distinct (get_or c.args.self.jobs c.loop-i.i no_job ∷ drop (c.loop-i.i + 1) (live c.args.self)) =
-        let js = c.args.self.jobs in
-        let long : length js ≡ 64 = search (rules, length_mapped) in
-        c.loop-i.invariant ∙ ap distinct (next_live js _ c.loop-i.i no_job c.loop-i-test.true (omega arith)) in
+    let js = c.args.self.jobs in
+    let long : length js ≡ 64 = search (rules, length_mapped) in
+    c.loop-i.invariant ∙ ap distinct (next_live js _ c.loop-i.i no_job c.loop-i-test.true (omega arith)) in
     let js = c.args.self.jobs in
     let long : length js ≡ 64 = search (rules, length_mapped) in
     let behind = next_live js _ c.loop-k.k no_job c.loop-k-test.true (omega arith) in
@@ -39,9 +39,9 @@ pub loop-i-preserved : goal.loop-i-preserved
 unfolding lacks
 loop-i-preserved c =
     let here : distinct (live c.args.self) ≡ distinct (get_or c.args.self.jobs c.loop-i.i no_job ∷ drop (c.loop-i.i + 1) (live c.args.self)) =
-        let js = c.args.self.jobs in
-        let long : length js ≡ 64 = search (rules, length_mapped) in
-        c.loop-i.invariant ∙ ap distinct (next_live js _ c.loop-i.i no_job c.loop-i-test.true (omega arith)) in
+    let js = c.args.self.jobs in
+    let long : length js ≡ 64 = search (rules, length_mapped) in
+    c.loop-i.invariant ∙ ap distinct (next_live js _ c.loop-i.i no_job c.loop-i-test.true (omega arith)) in
     let js = c.args.self.jobs in
     let long : length js ≡ 64 = search (rules, length_mapped) in
     let none = no_more_live js _ c.loop-k.k c.loop-k-test.false (omega arith) in

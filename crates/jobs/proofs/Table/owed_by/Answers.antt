@@ -8,10 +8,10 @@ use borrow.Author.Tests.{not-true, not-false, ltb-true, ltb-false}
 use lib.ListN.{length, get_or, drop}
 use lib.Seq.{length-take-le}
 use Rattle.lists.specs.Lists.{Each}
-use Rattle.lists.proofs.Places.{length_mapped, next_live, no_more_live, each_live, each_get_or}
+use Rattle.lists.proofs.Places.{length_mapped, next_live, each_get_or}
 use Rattle.ticks.specs.Ticks.{ticks}
 use Rattle.jobs.specs.Jobs.{live, no_job}
-use Rattle.jobs.specs.Figures.{owed_by, figure_in}
+use Rattle.jobs.specs.Figures.{figure_in}
 use Rattle.jobs.proofs.InDeadlineOrder.{none_owed, last_shows}
 use Rattle.jobs.proofs.Places.{live_at}
 use Rattle.jobs.proofs.Table.owed_by.Goals as goal
@@ -19,8 +19,8 @@ use Rattle.jobs.proofs.Table.owed_by.Goals as goal
 pub returns-then-not-is_after : goal.returns-then-not-is_after
 returns-then-not-is_after c =
     let few : c.args.self.count ≤ length c.args.self.jobs =
-        let long : length c.args.self.jobs ≡ 64 = search (rules, length_mapped) in
-        omega arith in
+    let long : length c.args.self.jobs ≡ 64 = search (rules, length_mapped) in
+    omega arith in
     let t = c.args.self in
     let js = live t in
     let D = c.args.by.0 in
@@ -37,8 +37,8 @@ returns-then-not-is_after c =
 pub loop-left-preserved : goal.loop-left-preserved
 loop-left-preserved c =
     let few : c.args.self.count ≤ length c.args.self.jobs =
-        let long : length c.args.self.jobs ≡ 64 = search (rules, length_mapped) in
-        omega arith in
+    let long : length c.args.self.jobs ≡ 64 = search (rules, length_mapped) in
+    omega arith in
     let t = c.args.self in
     let i = c.loop-left.left - 1 in
     let back : i + 1 ≡ c.loop-left.left = omega (arith, c.loop-left-test.true) in

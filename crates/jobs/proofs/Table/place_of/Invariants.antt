@@ -1,15 +1,9 @@
 -- `jobs::Table::place_of` meets its contract: the place is that among the jobs still to look at, counted from the first.
-use mathlib.Core.Path.{◌≡◌, sym, ap, ◌∙◌}
-use mathlib.Core.List.{◌∷◌}
+use mathlib.Core.Path.{◌≡◌}
 use Prim.Native.Nat.{◌+◌, ◌-◌, ◌≤◌}
-use native.Mathlib.Omega.{arith}
-use borrow.Author.Rules.{rules}
-use borrow.Author.Tests.{not-true, not-false}
-use lib.ListN.{length, get_or, drop}
-use Rattle.lists.proofs.Places.{length_mapped, next_live, no_more_live}
-use Rattle.jobs.specs.Jobs.{live, no_job}
+use lib.ListN.{drop}
+use Rattle.jobs.specs.Jobs.{live}
 use Rattle.jobs.specs.Sorted.{place_of}
-use Rattle.jobs.proofs.Sorted.{place_here, place_past, place_none}
 use Rattle.jobs.proofs.Table.place_of.Given as goal
 
 abbrev pub invariant-loop-i : goal.invariant-loop-i

@@ -1,14 +1,8 @@
 -- `jobs::Table::put` meets its contract: the places from the new job's on have moved up so far, the rest stand as they stood.
-use mathlib.Core.Path.{◌≡◌, sym, ap, ◌∙◌}
+use mathlib.Core.Path.{◌≡◌}
 use Prim.Native.Nat.{◌+◌, ◌-◌, ◌≤◌}
-use native.Mathlib.Omega.{arith}
-use native.Mathlib.Numerals.{add-one}
-use borrow.Author.Rules.{rules}
-use lib.ListN.{length, get_or, drop, set, length-drop}
-use lib.Seq.{paste, paste-zero, paste-suc, get_or-drop}
-use Rattle.lists.proofs.Places.{length_mapped}
-use Rattle.jobs.specs.Jobs.{no_job}
-use Rattle.jobs.proofs.Places.{one_more}
+use lib.ListN.{drop}
+use lib.Seq.{paste}
 use Rattle.jobs.proofs.Table.put.Given as goal
 
 abbrev pub invariant-loop-i : goal.invariant-loop-i

@@ -1,14 +1,7 @@
 -- `jobs::Table::raised` meets its contract: the jobs so far show it too, the others are as they were.
-use mathlib.Core.Path.{◌≡◌, refl, ap}
-use Prim.Native.Nat.{◌+◌, ◌-◌, ◌≤◌, ◌<◌, ◌^◌}
 use native.Mathlib.Omega.{arith}
-use borrow.Author.Rules.{rules}
-use lib.ListN.{length}
-use Rattle.lists.specs.Lists.{filled}
-use Rattle.lists.proofs.Places.{length_mapped, each_live, changed}
-use Rattle.jobs.specs.Jobs.{most_jobs, no_job, live}
-use Rattle.jobs.specs.Figures.{owes_by, raised}
-use Rattle.jobs.proofs.Places.{next_changed, all_changed}
+use Rattle.jobs.specs.Figures.{raised}
+use Rattle.jobs.proofs.Places.{next_changed}
 use Rattle.jobs.proofs.Table.raised.Goals as goal
 
 pub loop-i-preserved : goal.loop-i-preserved

@@ -1,13 +1,11 @@
 -- `jobs::Table::rest_unused` meets its contract: the unused places are all zero exactly if those still to look at are.
-use mathlib.Core.Path.{◌≡◌, refl, sym, ◌∙◌}
-use Prim.Native.Nat.{◌-◌}
+use mathlib.Core.Path.{◌≡◌, sym, ◌∙◌}
 use native.Mathlib.Omega.{arith}
 use borrow.Author.Rules.{rules}
 use borrow.Author.Tests.{not-true, not-false}
-use lib.ListN.{length, drop}
-use Rattle.lists.specs.Lists.{every}
+use lib.ListN.{length}
 use Rattle.lists.proofs.Places.{length_mapped, next, no_more, every_fails, every_goes_on, every_passes}
-use Rattle.jobs.specs.Jobs.{most_jobs, unused_job, no_job}
+use Rattle.jobs.specs.Jobs.{unused_job, no_job}
 use Rattle.jobs.proofs.Table.rest_unused.Goals as goal
 
 pub returns-then-not-is_none : goal.returns-then-not-is_none

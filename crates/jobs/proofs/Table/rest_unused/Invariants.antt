@@ -1,13 +1,9 @@
 -- `jobs::Table::rest_unused` meets its contract: the unused places are all zero exactly if those still to look at are.
-use mathlib.Core.Path.{◌≡◌, refl, sym, ◌∙◌}
+use mathlib.Core.Path.{◌≡◌}
 use Prim.Native.Nat.{◌-◌}
-use native.Mathlib.Omega.{arith}
-use borrow.Author.Rules.{rules}
-use borrow.Author.Tests.{not-true, not-false}
-use lib.ListN.{length, drop}
+use lib.ListN.{drop}
 use Rattle.lists.specs.Lists.{every}
-use Rattle.lists.proofs.Places.{length_mapped, next, no_more, every_fails, every_goes_on, every_passes}
-use Rattle.jobs.specs.Jobs.{most_jobs, unused_job, no_job}
+use Rattle.jobs.specs.Jobs.{most_jobs, unused_job}
 use Rattle.jobs.proofs.Table.rest_unused.Given as goal
 
 abbrev pub invariant-loop-i : goal.invariant-loop-i

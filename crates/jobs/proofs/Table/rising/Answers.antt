@@ -1,5 +1,5 @@
 -- `jobs::Table::rising` meets its contract: the jobs rise exactly if those from the last one looked at on do.
-use mathlib.Core.Path.{◌≡◌, refl, sym, ap, ◌∙◌}
+use mathlib.Core.Path.{◌≡◌, sym, ap, ◌∙◌}
 use mathlib.Core.List.{◌∷◌}
 use Prim.Native.Nat.{◌+◌, ◌-◌, ◌≤◌}
 use native.Mathlib.Omega.{arith}
@@ -16,31 +16,31 @@ use Rattle.jobs.proofs.Table.rising.Goals as goal
 pub returns-then-not-before : goal.returns-then-not-before
 returns-then-not-before c =
     let few : c.args.self.count ≤ length c.args.self.jobs =
-        let long : length c.args.self.jobs ≡ 64 = search (rules, length_mapped) in
-        omega arith in
+    let long : length c.args.self.jobs ≡ 64 = search (rules, length_mapped) in
+    omega arith in
     let here : drop (c.loop-i.i - 1) (live c.args.self) ≡ get_or c.args.self.jobs (c.loop-i.i - 1) no_job ∷ (get_or c.args.self.jobs c.loop-i.i no_job ∷ drop (c.loop-i.i + 1) (live c.args.self)) =
-        let t = c.args.self in
-        let i = c.loop-i.i in
-        let some = c.loop-i.invariant.0 in
-        let back : i - 1 + 1 ≡ i = omega arith in
-        next_live t.jobs t.count (i - 1) no_job (omega arith) few
-        ∙ ap (λ n. get_or t.jobs (i - 1) no_job ∷ drop n (live t)) back
-        ∙ ap (get_or t.jobs (i - 1) no_job ∷◌) (next_live t.jobs t.count i no_job c.loop-i-test.true few) in
+    let t = c.args.self in
+    let i = c.loop-i.i in
+    let some = c.loop-i.invariant.0 in
+    let back : i - 1 + 1 ≡ i = omega arith in
+    next_live t.jobs t.count (i - 1) no_job (omega arith) few
+    ∙ ap (λ n. get_or t.jobs (i - 1) no_job ∷ drop n (live t)) back
+    ∙ ap (get_or t.jobs (i - 1) no_job ∷◌) (next_live t.jobs t.count i no_job c.loop-i-test.true few) in
     sym (c.loop-i.invariant.1 ∙ ap rising here ∙ rising_stop _ _ _ (sym c.before-in-loop-i.ensures ∙ not-true _ c.if-not-before.true-raw))
 
 pub loop-i-preserved : goal.loop-i-preserved
 loop-i-preserved c =
     let few : c.args.self.count ≤ length c.args.self.jobs =
-        let long : length c.args.self.jobs ≡ 64 = search (rules, length_mapped) in
-        omega arith in
+    let long : length c.args.self.jobs ≡ 64 = search (rules, length_mapped) in
+    omega arith in
     let here : drop (c.loop-i.i - 1) (live c.args.self) ≡ get_or c.args.self.jobs (c.loop-i.i - 1) no_job ∷ (get_or c.args.self.jobs c.loop-i.i no_job ∷ drop (c.loop-i.i + 1) (live c.args.self)) =
-        let t = c.args.self in
-        let i = c.loop-i.i in
-        let some = c.loop-i.invariant.0 in
-        let back : i - 1 + 1 ≡ i = omega arith in
-        next_live t.jobs t.count (i - 1) no_job (omega arith) few
-        ∙ ap (λ n. get_or t.jobs (i - 1) no_job ∷ drop n (live t)) back
-        ∙ ap (get_or t.jobs (i - 1) no_job ∷◌) (next_live t.jobs t.count i no_job c.loop-i-test.true few) in
+    let t = c.args.self in
+    let i = c.loop-i.i in
+    let some = c.loop-i.invariant.0 in
+    let back : i - 1 + 1 ≡ i = omega arith in
+    next_live t.jobs t.count (i - 1) no_job (omega arith) few
+    ∙ ap (λ n. get_or t.jobs (i - 1) no_job ∷ drop n (live t)) back
+    ∙ ap (get_or t.jobs (i - 1) no_job ∷◌) (next_live t.jobs t.count i no_job c.loop-i-test.true few) in
     let t = c.args.self in
     let i = c.loop-i.i in
     let on : i + 1 - 1 ≡ i = omega arith in (
@@ -55,8 +55,8 @@ loop-i-preserved c =
 pub returns : goal.returns
 returns c =
     let few : c.args.self.count ≤ length c.args.self.jobs =
-        let long : length c.args.self.jobs ≡ 64 = search (rules, length_mapped) in
-        omega arith in
+    let long : length c.args.self.jobs ≡ 64 = search (rules, length_mapped) in
+    omega arith in
     let t = c.args.self in
     let i = c.loop-i.i in
     let many : length (live t) ≡ t.count = length-take-le t.count t.jobs few in

@@ -1,16 +1,9 @@
 -- `jobs::Table::rising` meets its contract: the jobs rise exactly if those from the last one looked at on do.
-use mathlib.Core.Path.{◌≡◌, refl, sym, ap, ◌∙◌}
-use mathlib.Core.List.{◌∷◌}
-use Prim.Native.Nat.{◌+◌, ◌-◌, ◌≤◌}
-use native.Mathlib.Omega.{arith}
-use borrow.Author.Rules.{rules}
-use borrow.Author.Tests.{not-true, not-false}
-use lib.ListN.{length, get_or, drop, length-drop}
-use lib.Seq.{length-take-le}
-use Rattle.lists.proofs.Places.{length_mapped, next_live}
-use Rattle.jobs.specs.Jobs.{live, no_job}
+use mathlib.Core.Path.{◌≡◌}
+use Prim.Native.Nat.{◌-◌, ◌≤◌}
+use lib.ListN.{drop}
+use Rattle.jobs.specs.Jobs.{live}
 use Rattle.jobs.specs.Sorted.{rising}
-use Rattle.jobs.proofs.Sorted.{rising_past, rising_stop, rising_few}
 use Rattle.jobs.proofs.Table.rising.Given as goal
 
 abbrev pub invariant-loop-i : goal.invariant-loop-i

@@ -2,12 +2,10 @@
 use mathlib.Core.Path.{◌≡◌, sym, ap, ◌∙◌}
 use Prim.Native.Nat.{ℕ, ◌-◌, ◌≤◌, ◌<◌}
 use native.Mathlib.Omega.{arith}
-use borrow.Author.Rules.{rules}
 use borrow.Author.Tests.{eqb-true, eqb-false}
 use lib.ListN.{get_or}
 use Rattle.lists.proofs.Places.{each_get_or}
 use Rattle.lists.proofs.Maps.{out}
-use Rattle.ticks.specs.Ticks.{ticks}
 use Rattle.jobs.specs.declared.Table.{Table}
 use Rattle.jobs.specs.Jobs.{no_job, live, table_of, FoundAt}
 use Rattle.jobs.specs.Served.{Owing, owing_less}
@@ -21,71 +19,71 @@ use Rattle.jobs.proofs.Table.serve.Goals as goal
 pub owing_less-table-requires : goal.owing_less-table-requires
 owing_less-table-requires c =
     let table : Table =
-        c.args.self in
+    c.args.self in
     let at : ℕ =
-        c.in-At.at in
+    c.in-At.at in
     let found : FoundAt c.args.number at (live table) × (at < table.count) =
-        found_live table _ _ c.requires.0 (sym c.find.ensures ∙ c.in-At.is) in
+    found_live table _ _ c.requires.0 (sym c.find.ensures ∙ c.in-At.is) in
     let owing : Owing (get_or (live table) at no_job) =
-        each_get_or Owing (live table) at no_job c.requires.1 found.0.inside in
+    each_get_or Owing (live table) at no_job c.requires.1 found.0.inside in
     (c.requires.0, found.1, c.requires.2, omega (arith, ap (λ l. l.0) c.of.ensures, owing))
 
 pub offset_bounds-table-at : goal.offset_bounds-table-at
 offset_bounds-table-at c =
     let at : ℕ =
-        c.in-At.at in
+    c.in-At.at in
     let table : Table =
-        c.args.self in
+    c.args.self in
     let found : FoundAt c.args.number at (live table) × (at < table.count) =
-        found_live table _ _ c.requires.0 (sym c.find.ensures ∙ c.in-At.is) in
+    found_live table _ _ c.requires.0 (sym c.find.ensures ∙ c.in-At.is) in
     let after : c.owing_less-table.result ≡ table_of (figured (owing_less at 1 (live table))) =
-        c.owing_less-table.ensures ∙ ap (λ l. table_of (figured (owing_less at l.0 (live table)))) c.of.ensures in
+    c.owing_less-table.ensures ∙ ap (λ l. table_of (figured (owing_less at l.0 (live table)))) c.of.ensures in
     let inside : at < c.owing_less-table.result.count =
-        omega (arith, ap (λ t. t.count) after, less_count table c.requires.0 at 1 found.1, found.1) in
+    omega (arith, ap (λ t. t.count) after, less_count table c.requires.0 at 1 found.1, found.1) in
     let few : c.owing_less-table.result.count ≤ 64 =
-        omega (arith, ap (λ t. t.count) after, less_count table c.requires.0 at 1 found.1, c.requires.0.few) in
+    omega (arith, ap (λ t. t.count) after, less_count table c.requires.0 at 1 found.1, c.requires.0.few) in
     omega (arith, inside, few)
 
 pub bounds-table-at : goal.bounds-table-at
 bounds-table-at c =
     let at : ℕ =
-        c.in-At.at in
+    c.in-At.at in
     let table : Table =
-        c.args.self in
+    c.args.self in
     let found : FoundAt c.args.number at (live table) × (at < table.count) =
-        found_live table _ _ c.requires.0 (sym c.find.ensures ∙ c.in-At.is) in
+    found_live table _ _ c.requires.0 (sym c.find.ensures ∙ c.in-At.is) in
     let after : c.owing_less-table.result ≡ table_of (figured (owing_less at 1 (live table))) =
-        c.owing_less-table.ensures ∙ ap (λ l. table_of (figured (owing_less at l.0 (live table)))) c.of.ensures in
+    c.owing_less-table.ensures ∙ ap (λ l. table_of (figured (owing_less at l.0 (live table)))) c.of.ensures in
     let inside : at < c.owing_less-table.result.count =
-        omega (arith, ap (λ t. t.count) after, less_count table c.requires.0 at 1 found.1, found.1) in
+    omega (arith, ap (λ t. t.count) after, less_count table c.requires.0 at 1 found.1, found.1) in
     let few : c.owing_less-table.result.count ≤ 64 =
-        omega (arith, ap (λ t. t.count) after, less_count table c.requires.0 at 1 found.1, c.requires.0.few) in
+    omega (arith, ap (λ t. t.count) after, less_count table c.requires.0 at 1 found.1, c.requires.0.few) in
     omega (arith, inside, few)
 
 pub without-requires : goal.without-requires
 without-requires c =
     let table : Table =
-        c.args.self in
+    c.args.self in
     let at : ℕ =
-        c.in-At.at in
+    c.in-At.at in
     let found : FoundAt c.args.number at (live table) × (at < table.count) =
-        found_live table _ _ c.requires.0 (sym c.find.ensures ∙ c.in-At.is) in
+    found_live table _ _ c.requires.0 (sym c.find.ensures ∙ c.in-At.is) in
     let after : c.owing_less-table.result ≡ table_of (figured (owing_less at 1 (live table))) =
-        c.owing_less-table.ensures ∙ ap (λ l. table_of (figured (owing_less at l.0 (live table)))) c.of.ensures in
+    c.owing_less-table.ensures ∙ ap (λ l. table_of (figured (owing_less at l.0 (live table)))) c.of.ensures in
     rw after (less_tidy table c.requires.0 at 1 found.1, omega (arith, less_count table c.requires.0 at 1 found.1, found.1))
 
 pub returns-then-is_none : goal.returns-then-is_none
 returns-then-is_none c =
     let table : Table =
-        c.args.self in
+    c.args.self in
     let at : ℕ =
-        c.in-At.at in
+    c.in-At.at in
     let found : FoundAt c.args.number at (live table) × (at < table.count) =
-        found_live table _ _ c.requires.0 (sym c.find.ensures ∙ c.in-At.is) in
+    found_live table _ _ c.requires.0 (sym c.find.ensures ∙ c.in-At.is) in
     let after : c.owing_less-table.result ≡ table_of (figured (owing_less at 1 (live table))) =
-        c.owing_less-table.ensures ∙ ap (λ l. table_of (figured (owing_less at l.0 (live table)))) c.of.ensures in
+    c.owing_less-table.ensures ∙ ap (λ l. table_of (figured (owing_less at l.0 (live table)))) c.of.ensures in
     let left : (get_or c.owing_less-table.result.jobs at no_job).owed.0 ≡ (get_or (live table) at no_job).owed.0 - 1 =
-        ap (λ t. (get_or t.jobs at no_job).owed.0) after ∙ less_owes table c.requires.0 at 1 found.1 in
+    ap (λ t. (get_or t.jobs at no_job).owed.0) after ∙ less_owes table c.requires.0 at 1 found.1 in
     let js = live table in
     let none : (get_or c.owing_less-table.result.jobs at no_job).owed.0 ≡ 0 = eqb-true _ _ (sym c.is_none.ensures ∙ c.if-is_none.true) in
     let last : (get_or js at no_job).owed.0 ≤ 1 = omega (arith, left, none) in
@@ -97,17 +95,17 @@ returns-then-is_none c =
 pub returns-else-is_none : goal.returns-else-is_none
 returns-else-is_none c =
     let table : Table =
-        c.args.self in
+    c.args.self in
     let at : ℕ =
-        c.in-At.at in
+    c.in-At.at in
     let found : FoundAt c.args.number at (live table) × (at < table.count) =
-        found_live table _ _ c.requires.0 (sym c.find.ensures ∙ c.in-At.is) in
+    found_live table _ _ c.requires.0 (sym c.find.ensures ∙ c.in-At.is) in
     let owing : Owing (get_or (live table) at no_job) =
-        each_get_or Owing (live table) at no_job c.requires.1 found.0.inside in
+    each_get_or Owing (live table) at no_job c.requires.1 found.0.inside in
     let after : c.owing_less-table.result ≡ table_of (figured (owing_less at 1 (live table))) =
-        c.owing_less-table.ensures ∙ ap (λ l. table_of (figured (owing_less at l.0 (live table)))) c.of.ensures in
+    c.owing_less-table.ensures ∙ ap (λ l. table_of (figured (owing_less at l.0 (live table)))) c.of.ensures in
     let left : (get_or c.owing_less-table.result.jobs at no_job).owed.0 ≡ (get_or (live table) at no_job).owed.0 - 1 =
-        ap (λ t. (get_or t.jobs at no_job).owed.0) after ∙ less_owes table c.requires.0 at 1 found.1 in
+    ap (λ t. (get_or t.jobs at no_job).owed.0) after ∙ less_owes table c.requires.0 at 1 found.1 in
     let js = live table in
     let some : (get_or c.owing_less-table.result.jobs at no_job).owed.0 ≡ 0 → ⊥ = eqb-false _ _ (sym c.is_none.ensures ∙ c.if-is_none.false) in
     let more : 1 < (get_or js at no_job).owed.0 = omega (arith, left, some, owing) in

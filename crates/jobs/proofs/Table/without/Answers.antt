@@ -1,11 +1,11 @@
 -- `jobs::Table::without` meets its contract: the places behind have moved up so far, the rest stand as they stood.
 use mathlib.Core.Path.{◌≡◌, sym, ap, ◌∙◌}
-use Prim.Native.Nat.{◌+◌, ◌-◌, ◌≤◌}
+use Prim.Native.Nat.{◌+◌, ◌-◌}
 use native.Mathlib.Omega.{arith}
 use native.Mathlib.Numerals.{add-one}
 use borrow.Author.Rules.{rules}
 use lib.ListN.{length, get_or, drop, set, length-drop}
-use lib.Seq.{paste, paste-zero, paste-suc, get_or-drop}
+use lib.Seq.{paste, paste-suc, get_or-drop}
 use Rattle.lists.proofs.Places.{length_mapped}
 use Rattle.jobs.specs.Jobs.{no_job}
 use Rattle.jobs.proofs.Places.{one_less}

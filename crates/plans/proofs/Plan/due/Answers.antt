@@ -1,8 +1,6 @@
 -- `plans::Plan::due` meets its contract: the lead from the clock, back to when the piece came.
-use mathlib.Core.Path.{ap, ◌∙◌}
-use native.Mathlib.Omega.{arith}
-use borrow.Author.Rules.{rules}
-use Rattle.ticks.specs.Ticks.{instant, back}
+use mathlib.Core.Path.{◌∙◌}
+use Rattle.ticks.specs.Ticks.{back}
 use Rattle.plans.specs.Plans.{due}
 use Rattle.plans.proofs.Plan.due.Goals as goal
 

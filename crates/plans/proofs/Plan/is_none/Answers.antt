@@ -1,6 +1,5 @@
 -- `plans::Plan::is_none` meets its contract: each return goes by the tests that led there.
 use mathlib.Core.Path.{sym, ◌∙◌}
-use borrow.Author.Rules.{rules}
 use borrow.Author.Tests.{not-true, not-false}
 use Rattle.lists.proofs.Tests.{passes, fails, last}
 use Rattle.plans.specs.Plans.{unused_plan}

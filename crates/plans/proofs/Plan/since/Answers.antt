@@ -2,7 +2,6 @@
 use mathlib.Core.Path.{◌≡◌, ap, ◌∙◌}
 use Prim.Native.Nat.{◌+◌, ◌-◌, ◌%◌}
 use native.Mathlib.Omega.{arith}
-use borrow.Author.Rules.{rules}
 use Rattle.ticks.specs.Ticks.{ticks}
 use Rattle.plans.specs.Plans.{since}
 use Rattle.plans.proofs.Plan.since.Goals as goal
