@@ -2,7 +2,6 @@
 use mathlib.Core.Path.{◌≡◌, sym, ap, ◌∙◌}
 use mathlib.Core.Bool.{not}
 use mathlib.Core.List.{[], ◌∷◌}
-use borrow.Author.Rules.{rules}
 use Rattle.answers.specs.declared.Verdict.TheVariants.{Yes, No}
 use Rattle.answers.specs.declared.Refusal.TheVariants.{NotInOrder}
 use Rattle.answers.specs.Answers.{first_of, on_yes}
@@ -11,24 +10,20 @@ use Rattle.desk.specs.Calls.{disorder}
 use Rattle.waveform.specs.Cursors.{begun}
 use Rattle.waveform.specs.Order.{none}
 use Rattle.runs.specs.Parts.{clock_of, begun_of}
-use Rattle.runs.proofs.begin.Statement.{statement}
-use Rattle.runs.proofs.begin.Tie as tie
+use Rattle.runs.proofs.begin.Goals as goal
 
-returns : tie.Need-returns
+pub returns-then-not-in_order : goal.returns-then-not-in_order
 unfolding begun_of
-returns c =
-    let d = c.before.before.before.args.desk in
-    let v : first_of (disorder d ∷ []) ≡ No NotInOrder = stops (disorder d) [] (ap not (sym c.before.before.in_order.ensures) ∙ c.before.if1.true) in
+returns-then-not-in_order c =
+    let d = c.args.desk in
+    let v : first_of (disorder d ∷ []) ≡ No NotInOrder = stops (disorder d) [] (ap not (sym c.in_order.ensures ∙ c.if-not-in_order.true)) in
     ap (λ k. record { cursor = k; verdict = No NotInOrder }) c.none.ensures
     ∙ (λ i. record { cursor = on_yes (sym v i) (begun (clock_of d)) none; verdict = sym v i })
 
-returns-2 : tie.Need-returns-2
+pub returns : goal.returns
 unfolding begun_of
-returns-2 c =
-    let d = c.before.before.before.args.desk in
-    let v : first_of (disorder d ∷ []) ≡ Yes = goes_on_lem (disorder d) [] Yes (ap not (sym c.before.before.in_order.ensures) ∙ c.before.if1.false) no_line in
+returns c =
+    let d = c.args.desk in
+    let v : first_of (disorder d ∷ []) ≡ Yes = goes_on_lem (disorder d) [] Yes (ap not (sym c.in_order.ensures ∙ c.if-not-in_order.false)) no_line in
     ap (λ k. record { cursor = k; verdict = Yes }) c.begin.ensures
     ∙ (λ i. record { cursor = on_yes (sym v i) (begun (clock_of d)) none; verdict = sym v i })
-
-pub begin_spec : {M : Type 1} → statement M
-begin_spec = tie.close (tie.spec (λ c κs. search rules) (λ c κs. search rules) returns (λ c κs. search rules) returns-2)
