@@ -5,9 +5,9 @@ use Prim.Native.Nat.{ℕ, suc}
 use native.Mathlib.Omega.{arith}
 use lib.ListN.{length, get_or, drop, length-map}
 use Rattle.ticks.specs.declared.Length.{Length}
-use Rattle.ticks.specs.Ticks.{ticks, instant}
+use Rattle.ticks.specs.Ticks.{ticks}
 use Rattle.feeds.specs.declared.Feed.{Feed}
-use Rattle.feeds.specs.Feeds.{owing, in_use, plans_of, feeds_of}
+use Rattle.feeds.specs.Feeds.{in_use, plans_of, feeds_of}
 use Rattle.feeds.proofs.Passing.{in_use_of}
 use Rattle.jobs.specs.declared.Job.{Job}
 use Rattle.jobs.specs.Jobs.{live, table_of}
@@ -24,7 +24,7 @@ use Rattle.answers.specs.declared.Who.{Who}
 use Rattle.answers.specs.declared.Who.TheVariants as who
 use Rattle.ledger.specs.declared.Ledger.{Ledger}
 use Rattle.ledger.specs.State.{moved, InOrder}
-use Rattle.ledger.specs.Books.{book_plan, book_feed, book_feeds, book_job, book_of, job_of, owing_as, rewritten, InTableOrder, who_of, who_is, SameFeeds}
+use Rattle.ledger.specs.Books.{book_plan, book_feeds, book_job, book_of, job_of, owing_as, rewritten, InTableOrder, who_of, who_is, SameFeeds}
 
 -- the heads and the tails of lists that are the same
 module _ {A : Type 0} (x y : A) (xs ys : List A) (e : x ∷ xs ≡ y ∷ ys) where

@@ -13,16 +13,16 @@ use Rattle.lists.proofs.Lists.{each_imp, each_both, each_map, total_map}
 use Rattle.lists.proofs.Tests.{eq_elim, all_of_lem, all_of_made}
 use Rattle.ticks.specs.declared.Instant.{Instant}
 use Rattle.ticks.specs.declared.Length.{Length}
-use Rattle.ticks.specs.Ticks.{instant, ticks}
+use Rattle.ticks.specs.Ticks.{instant}
 use Rattle.plans.specs.declared.Plan.{Plan}
 use Rattle.plans.specs.Plans as plans
 use Rattle.plans.specs.Plans.{PlanIn}
 use Rattle.feeds.specs.declared.Feed.{Feed}
-use Rattle.feeds.specs.Feeds.{FeedIn, in_use, plans_of, feeds_of, owing}
+use Rattle.feeds.specs.Feeds.{FeedIn, in_use}
 use Rattle.feeds.specs.Round.{periods, round_of, demand}
 use Rattle.feeds.specs.Lines.{Passing, FeedsIn}
 use Rattle.feeds.specs.Pieces.{PieceIn}
-use Rattle.feeds.proofs.Passing.{feeds_pass_lem, feeds_tidy, feeds_pass_made, in_use_of, tidy_of, feeds_pass_of}
+use Rattle.feeds.proofs.Passing.{feeds_pass_lem, feeds_tidy, in_use_of, tidy_of, feeds_pass_of}
 use Rattle.feeds.proofs.Same.{same_passing}
 use Rattle.jobs.specs.declared.Job.{Job}
 use Rattle.jobs.specs.Jobs.{JobIn, JobsIn, live, table_of}
@@ -39,8 +39,8 @@ use Rattle.edf.proofs.Loads.{Round}
 use Rattle.edf.proofs.Rounds.{round_carried, short_stretches_are_light}
 use Rattle.ledger.specs.declared.Ledger.{Ledger}
 use Rattle.ledger.specs.State.{in_order, Sized, InOrder}
-use Rattle.ledger.specs.Books.{book_plan, book_feed, book_feeds, book_job, book_at, book_of, job_of, owing_as, rewritten, JobHeld, SameFeeds, Held}
-use Rattle.ledger.proofs.Books.{owing_as_plans, length_owing_as, read_owing_as}
+use Rattle.ledger.specs.Books.{book_plan, book_feed, book_feeds, book_job, book_at, book_of, job_of, owing_as, rewritten, JobHeld, Held}
+use Rattle.ledger.proofs.Books.{owing_as_plans, read_owing_as}
 use Rattle.ledger.proofs.Pieces.{since_read}
 
 -- THE TEST OF A STATE, AS FACTS

@@ -2,7 +2,7 @@
 use Rattle.std.specs.Prelude.{ℕ, ◌+◌, ◌*◌, ◌≤◌}
 use Rattle.ticks.specs.declared.Instant.{Instant}
 use Rattle.ticks.specs.declared.Length.{Length}
-use Rattle.ticks.specs.Ticks.{last_instant, most_job, most_feed, most_round, most_charge}
+use Rattle.ticks.specs.Ticks.{last_instant, most_job, most_feed, most_round}
 use Rattle.plans.specs.Plans.{most_piece, due}
 use Rattle.feeds.specs.declared.Feed.{Feed}
 use Rattle.feeds.specs.Feeds.{FeedIn}

@@ -1,7 +1,7 @@
 -- What a step answers, by line 3.
 use mathlib.Core.Path.{◌≡◌, sym, ap, ◌∙◌}
 use mathlib.Core.Bool.{true, false, not}
-use mathlib.Core.List.{[], ◌∷◌}
+use mathlib.Core.List.{[]}
 use Prim.Native.Nat.{pred}
 use lib.Dec.{ltb}
 use Rattle.ticks.specs.Ticks.{last_instant, ticks}

@@ -13,7 +13,7 @@ use Rattle.listing.proofs.list.Goals as goal
 pub loop-i-preserved : goal.loop-i-preserved
 loop-i-preserved c =
     let many : c.args.table.count ≡ length (live c.args.table) =
-        sym (live_count c.args.table c.requires.0) in
+    sym (live_count c.args.table c.requires.0) in
     let t = c.args.table in
     let i = c.loop-i.i in
     let all = many in

@@ -14,51 +14,51 @@ use Rattle.edf.specs.Calls.{taking}
 use Rattle.ledger.specs.Books.{book_of, book_job}
 use Rattle.jobs.specs.Figures.{most_owed}
 use Rattle.jobs.proofs.Figures.{owes_by_le}
-use Rattle.room.proofs.Owed.{jobs_owe_little, feeds_ordered}
+use Rattle.room.proofs.Owed.{jobs_owe_little}
 use Rattle.reasons.proofs.Parts.{parts_make_owed}
 use Rattle.reasons.proofs.reason_at.Goals as goal
 
 pub overflow_add-jobs : goal.overflow_add-jobs
 overflow_add-jobs c =
     let modest : c.owes_by-asked.result.0 ≤ most_owed =
-        omega (arith, ap (λ l. l.0) c.owes_by-asked.ensures, owes_by_le c.args.at.0 c.args.job, c.requires.1) in
+    omega (arith, ap (λ l. l.0) c.owes_by-asked.ensures, owes_by_le c.args.at.0 c.args.job, c.requires.1) in
     let small : c.owed_by-jobs.result.0 + c.feeds_owe-printers.result + c.owes_by-asked.result.0 < 2 ^ 63 =
-        omega (arith, ap (λ l. l.0) c.owed_by-jobs.ensures, jobs_owe_little c.args.ledger c.requires.0 c.args.at.0, c.feeds_owe-printers.ensures.1, modest) in
+    omega (arith, ap (λ l. l.0) c.owed_by-jobs.ensures, jobs_owe_little c.args.ledger c.requires.0 c.args.at.0, c.feeds_owe-printers.ensures.1, modest) in
     omega (arith, small)
 
 pub overflow_add-jobs-2 : goal.overflow_add-jobs-2
 overflow_add-jobs-2 c =
     let modest : c.owes_by-asked.result.0 ≤ most_owed =
-        omega (arith, ap (λ l. l.0) c.owes_by-asked.ensures, owes_by_le c.args.at.0 c.args.job, c.requires.1) in
+    omega (arith, ap (λ l. l.0) c.owes_by-asked.ensures, owes_by_le c.args.at.0 c.args.job, c.requires.1) in
     let small : c.owed_by-jobs.result.0 + c.feeds_owe-printers.result + c.owes_by-asked.result.0 < 2 ^ 63 =
-        omega (arith, ap (λ l. l.0) c.owed_by-jobs.ensures, jobs_owe_little c.args.ledger c.requires.0 c.args.at.0, c.feeds_owe-printers.ensures.1, modest) in
+    omega (arith, ap (λ l. l.0) c.owed_by-jobs.ensures, jobs_owe_little c.args.ledger c.requires.0 c.args.at.0, c.feeds_owe-printers.ensures.1, modest) in
     omega (arith, small)
 
 pub margin-requires : goal.margin-requires
 margin-requires c =
     let modest : c.owes_by-asked.result.0 ≤ most_owed =
-        omega (arith, ap (λ l. l.0) c.owes_by-asked.ensures, owes_by_le c.args.at.0 c.args.job, c.requires.1) in
+    omega (arith, ap (λ l. l.0) c.owes_by-asked.ensures, owes_by_le c.args.at.0 c.args.job, c.requires.1) in
     let small : c.owed_by-jobs.result.0 + c.feeds_owe-printers.result + c.owes_by-asked.result.0 < 2 ^ 63 =
-        omega (arith, ap (λ l. l.0) c.owed_by-jobs.ensures, jobs_owe_little c.args.ledger c.requires.0 c.args.at.0, c.feeds_owe-printers.ensures.1, modest) in
+    omega (arith, ap (λ l. l.0) c.owed_by-jobs.ensures, jobs_owe_little c.args.ledger c.requires.0 c.args.at.0, c.feeds_owe-printers.ensures.1, modest) in
     let soon : c.ticks_since.result.0 < 2 ^ 63 =
-        omega (arith, ap (λ l. l.0) c.ticks_since.ensures, c.requires.2.near) in
+    omega (arith, ap (λ l. l.0) c.ticks_since.ensures, c.requires.2.near) in
     (soon, small)
 
 pub returns : goal.returns
 unfolding margin owed_by taking
 returns c =
     let book : Book =
-        taking (book_job c.args.job) (book_of c.args.ledger) in
+    taking (book_job c.args.job) (book_of c.args.ledger) in
     let whole : c.owed_by-jobs.result.0 + c.feeds_owe-printers.result + c.owes_by-asked.result.0 ≡ owed_by book c.args.at.0 =
-        omega (
-          arith,
-          ap (λ l. l.0) c.owed_by-jobs.ensures,
-          c.feeds_owe-printers.ensures.0,
-          ap (λ l. l.0) c.owes_by-asked.ensures,
-          parts_make_owed c.args.ledger c.args.job c.args.at.0,
-        ) in
+    omega (
+      arith,
+      ap (λ l. l.0) c.owed_by-jobs.ensures,
+      c.feeds_owe-printers.ensures.0,
+      ap (λ l. l.0) c.owes_by-asked.ensures,
+      parts_make_owed c.args.ledger c.args.job c.args.at.0,
+    ) in
     let told : c.margin.result ≡ margin book c.args.at.0 =
-        c.margin.ensures ∙ (λ i. pos (c.ticks_since.ensures i).0 -ℤ pos (whole i)) in
+    c.margin.ensures ∙ (λ i. pos (c.ticks_since.ensures i).0 -ℤ pos (whole i)) in
     λ i. record {
       at = c.args.at;
       jobs = c.owed_by-jobs.ensures i;

@@ -2,9 +2,8 @@
 -- earliest of the smallest margin.
 use mathlib.Core.Path.{◌≡◌, refl, sym, ap, ◌∙◌}
 use mathlib.Core.Logic.{inl, inr}
-use Prim.Native.Nat.{◌+◌, ◌-◌, ◌≤◌, ◌<◌}
+use Prim.Native.Nat.{◌+◌, ◌≤◌, ◌<◌}
 use native.Mathlib.Omega.{arith}
-use borrow.Author.Rules.{rules}
 use borrow.Author.Tests.{ltb-true, ltb-false}
 use Rattle.edf.specs.Book.{Book}
 use Rattle.edf.specs.Owed.{owed_by}
@@ -15,7 +14,7 @@ use Rattle.room.specs.Owed.{Reach}
 use Rattle.room.specs.Ahead.{horizon_of}
 use Rattle.room.proofs.Ahead.{horizon_near}
 use Rattle.reasons.specs.Reasons.{debt_by}
-use Rattle.reasons.proofs.Walk.{Walked, walked_first, walked_stops, walked_next, walked_done, tighter_before}
+use Rattle.reasons.proofs.Walk.{walked_first, walked_stops, walked_next, walked_done, tighter_before}
 use Rattle.reasons.proofs.tightest.Goals as goal
 
 pub next-end-requires : goal.next-end-requires
@@ -24,9 +23,9 @@ next-end-requires c = omega (arith, ap (λ i. i.0) c.horizon.ensures, horizon_ne
 pub loop-ledger-init : goal.loop-ledger-init
 loop-ledger-init c =
     let end : c.next-end.result.0 ≡ (horizon_of c.args.ledger).0 + 1 =
-        ap (λ i. i.0) c.next-end.ensures ∙ ap (λ i. i.0 + 1) c.horizon.ensures in
+    ap (λ i. i.0) c.next-end.ensures ∙ ap (λ i. i.0 + 1) c.horizon.ensures in
     let begin : c.next-by.result.0 ≡ c.args.ledger.clock.0 + 1 =
-        ap (λ i. i.0) c.next-by.ensures in
+    ap (λ i. i.0) c.next-by.ensures in
     let l = c.args.ledger in
     let first : c.next-by.result.0 < c.next-end.result.0
     = omega (arith, begin, end, horizon_near l c.requires) in
@@ -35,31 +34,31 @@ loop-ledger-init c =
 pub debt_by-next-requires : goal.debt_by-next-requires
 debt_by-next-requires c =
     let end : c.next-end.result.0 ≡ (horizon_of c.args.ledger).0 + 1 =
-        ap (λ i. i.0) c.next-end.ensures ∙ ap (λ i. i.0 + 1) c.horizon.ensures in
+    ap (λ i. i.0) c.next-end.ensures ∙ ap (λ i. i.0 + 1) c.horizon.ensures in
     let sooner : c.loop-ledger.by.0 < c.next-end.result.0 =
-        ltb-true _ _ (sym c.is_after.ensures ∙ c.loop-ledger-test.true) in
+    ltb-true _ _ (sym c.is_after.ensures ∙ c.loop-ledger-test.true) in
     let reach : Reach c.args.ledger.clock c.loop-ledger.by =
-        record {
-          inside = c.requires.clock;
-          near = omega (arith, sooner, end, (horizon_near c.args.ledger c.requires).1);
-        } in
+    record {
+      inside = c.requires.clock;
+      near = omega (arith, sooner, end, (horizon_near c.args.ledger c.requires).1);
+    } in
     (c.requires, reach)
 
 pub returns-then-is_longer : goal.returns-then-is_longer
 returns-then-is_longer c =
     let book : Book =
-        book_of c.args.ledger in
+    book_of c.args.ledger in
     let end : c.next-end.result.0 ≡ (horizon_of c.args.ledger).0 + 1 =
-        ap (λ i. i.0) c.next-end.ensures ∙ ap (λ i. i.0 + 1) c.horizon.ensures in
+    ap (λ i. i.0) c.next-end.ensures ∙ ap (λ i. i.0 + 1) c.horizon.ensures in
     let sooner : c.loop-ledger.by.0 < c.next-end.result.0 =
-        ltb-true _ _ (sym c.is_after.ensures ∙ c.loop-ledger-test.true) in
+    ltb-true _ _ (sym c.is_after.ensures ∙ c.loop-ledger-test.true) in
     let reach : Reach c.args.ledger.clock c.loop-ledger.by =
-        record {
-          inside = c.requires.clock;
-          near = omega (arith, sooner, end, (horizon_near c.args.ledger c.requires).1);
-        } in
+    record {
+      inside = c.requires.clock;
+      near = omega (arith, sooner, end, (horizon_near c.args.ledger c.requires).1);
+    } in
     let owed : c.debt_by-next.result.owed.0 ≡ owed_by book c.loop-ledger.by.0 =
-        ap (λ d. d.owed.0) c.debt_by-next.ensures in
+    ap (λ d. d.owed.0) c.debt_by-next.ensures in
     let longer : c.ticks_since.result.0 < c.debt_by-next.result.owed.0
     = ltb-true _ _ (sym c.is_longer.ensures ∙ c.if-is_longer.true) in
     let short : Overbooked book c.loop-ledger.by.0
@@ -74,23 +73,23 @@ returns-then-is_longer c =
 pub tighter-best-requires : goal.tighter-best-requires
 tighter-best-requires c =
     let book : Book =
-        book_of c.args.ledger in
+    book_of c.args.ledger in
     let end : c.next-end.result.0 ≡ (horizon_of c.args.ledger).0 + 1 =
-        ap (λ i. i.0) c.next-end.ensures ∙ ap (λ i. i.0 + 1) c.horizon.ensures in
+    ap (λ i. i.0) c.next-end.ensures ∙ ap (λ i. i.0 + 1) c.horizon.ensures in
     let sooner : c.loop-ledger.by.0 < c.next-end.result.0 =
-        ltb-true _ _ (sym c.is_after.ensures ∙ c.loop-ledger-test.true) in
+    ltb-true _ _ (sym c.is_after.ensures ∙ c.loop-ledger-test.true) in
     let reach : Reach c.args.ledger.clock c.loop-ledger.by =
-        record {
-          inside = c.requires.clock;
-          near = omega (arith, sooner, end, (horizon_near c.args.ledger c.requires).1);
-        } in
+    record {
+      inside = c.requires.clock;
+      near = omega (arith, sooner, end, (horizon_near c.args.ledger c.requires).1);
+    } in
     let owed : c.debt_by-next.result.owed.0 ≡ owed_by book c.loop-ledger.by.0 =
-        ap (λ d. d.owed.0) c.debt_by-next.ensures in
+    ap (λ d. d.owed.0) c.debt_by-next.ensures in
     let enough : InTime book c.loop-ledger.by.0 =
-        let walked = c.loop-ledger.invariant.0 in
-        let time : c.debt_by-next.result.owed.0 ≤ c.ticks_since.result.0
-        = ltb-false _ _ (sym c.is_longer.ensures ∙ c.if-is_longer.false) in
-        omega (arith, ap (λ l. l.0) c.ticks_since.ensures, owed, walked.after, walked.begun) in
+    let walked = c.loop-ledger.invariant.0 in
+    let time : c.debt_by-next.result.owed.0 ≤ c.ticks_since.result.0
+    = ltb-false _ _ (sym c.is_longer.ensures ∙ c.if-is_longer.false) in
+    omega (arith, ap (λ l. l.0) c.ticks_since.ensures, owed, walked.after, walked.begun) in
     let loop = c.loop-ledger in
     let here : c.debt_by-next.result.at.0 ≡ loop.by.0 = ap (λ d. d.at.0) c.debt_by-next.ensures in
     let far = reach in
@@ -104,29 +103,29 @@ tighter-best-requires c =
 pub next_due-by-requires : goal.next_due-by-requires
 next_due-by-requires c =
     let sooner : c.loop-ledger.by.0 < c.next-end.result.0 =
-        ltb-true _ _ (sym c.is_after.ensures ∙ c.loop-ledger-test.true) in
+    ltb-true _ _ (sym c.is_after.ensures ∙ c.loop-ledger-test.true) in
     let end : c.next-end.result.0 ≡ (horizon_of c.args.ledger).0 + 1 =
-        ap (λ i. i.0) c.next-end.ensures ∙ ap (λ i. i.0 + 1) c.horizon.ensures in
+    ap (λ i. i.0) c.next-end.ensures ∙ ap (λ i. i.0 + 1) c.horizon.ensures in
     let reach : Reach c.args.ledger.clock c.loop-ledger.by =
-        record {
-          inside = c.requires.clock;
-          near = omega (arith, sooner, end, (horizon_near c.args.ledger c.requires).1);
-        } in
+    record {
+      inside = c.requires.clock;
+      near = omega (arith, sooner, end, (horizon_near c.args.ledger c.requires).1);
+    } in
     (c.requires, reach, sooner)
 
 pub loop-ledger-preserved : goal.loop-ledger-preserved
 loop-ledger-preserved c =
     let book : Book =
-        book_of c.args.ledger in
+    book_of c.args.ledger in
     let sooner : c.loop-ledger.by.0 < c.next-end.result.0 =
-        ltb-true _ _ (sym c.is_after.ensures ∙ c.loop-ledger-test.true) in
+    ltb-true _ _ (sym c.is_after.ensures ∙ c.loop-ledger-test.true) in
     let owed : c.debt_by-next.result.owed.0 ≡ owed_by book c.loop-ledger.by.0 =
-        ap (λ d. d.owed.0) c.debt_by-next.ensures in
+    ap (λ d. d.owed.0) c.debt_by-next.ensures in
     let enough : InTime book c.loop-ledger.by.0 =
-        let walked = c.loop-ledger.invariant.0 in
-        let time : c.debt_by-next.result.owed.0 ≤ c.ticks_since.result.0
-        = ltb-false _ _ (sym c.is_longer.ensures ∙ c.if-is_longer.false) in
-        omega (arith, ap (λ l. l.0) c.ticks_since.ensures, owed, walked.after, walked.begun) in
+    let walked = c.loop-ledger.invariant.0 in
+    let time : c.debt_by-next.result.owed.0 ≤ c.ticks_since.result.0
+    = ltb-false _ _ (sym c.is_longer.ensures ∙ c.if-is_longer.false) in
+    omega (arith, ap (λ l. l.0) c.ticks_since.ensures, owed, walked.after, walked.begun) in
     let loop = c.loop-ledger in
     let until = c.next_due-by.ensures in
     rw (c.tighter-best.ensures, c.debt_by-next.ensures) (
@@ -138,9 +137,9 @@ loop-ledger-preserved c =
 pub returns : goal.returns
 returns c =
     let end : c.next-end.result.0 ≡ (horizon_of c.args.ledger).0 + 1 =
-        ap (λ i. i.0) c.next-end.ensures ∙ ap (λ i. i.0 + 1) c.horizon.ensures in
+    ap (λ i. i.0) c.next-end.ensures ∙ ap (λ i. i.0 + 1) c.horizon.ensures in
     let done : c.next-end.result.0 ≤ c.loop-ledger.by.0 =
-        ltb-false _ _ (sym c.is_after.ensures ∙ c.loop-ledger-test.false) in
+    ltb-false _ _ (sym c.is_after.ensures ∙ c.loop-ledger-test.false) in
     let past = end in
     record {
       telling = inr (walked_done c.args.ledger c.loop-ledger.best c.loop-ledger.by.0 c.requires (omega (arith, past, done)) c.loop-ledger.invariant.0);

@@ -1,13 +1,10 @@
 -- `room::feeds_owe` meets its contract: what is added up so far and what the feeds that are left owe make the whole.
-use mathlib.Core.Path.{◌≡◌, ap}
+use mathlib.Core.Path.{◌≡◌}
 use Prim.Native.Nat.{◌+◌, ◌*◌, ◌-◌, ◌≤◌}
-use native.Mathlib.Omega.{arith}
-use borrow.Author.Rules.{rules}
-use lib.ListN.{length, get_or, drop}
+use lib.ListN.{drop}
 use Rattle.lists.specs.Lists.{total}
-use Rattle.lists.proofs.Places.{length_mapped, next_live, no_more_live, each_live}
-use Rattle.feeds.specs.Feeds.{in_use, no_feed}
-use Rattle.room.specs.Owed.{feed_owes, FeedOrdered, most_of_feed}
+use Rattle.feeds.specs.Feeds.{in_use}
+use Rattle.room.specs.Owed.{feed_owes, most_of_feed}
 use Rattle.room.proofs.feeds_owe.Given as goal
 
 abbrev pub invariant-loop-i : goal.invariant-loop-i

@@ -1,7 +1,6 @@
 -- `room::fits` meets its contract: room below the horizon is what fits means.
 use mathlib.Core.Path.{◌≡◌, ap}
 use native.Mathlib.Omega.{arith}
-use borrow.Author.Rules.{rules}
 use Rattle.room.specs.Ahead.{horizon_of}
 use Rattle.room.proofs.Ahead.{horizon_near}
 use Rattle.room.proofs.Walk.{fits_says}

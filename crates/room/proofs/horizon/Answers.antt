@@ -2,7 +2,6 @@
 -- longest.
 use mathlib.Core.Path.{◌≡◌, ap, ◌∙◌}
 use native.Mathlib.Omega.{arith}
-use borrow.Author.Rules.{rules}
 use Rattle.ticks.specs.Ticks.{plus}
 use Rattle.feeds.specs.Feeds.{in_use}
 use Rattle.feeds.proofs.Limits.{feeds_in_made}
@@ -19,9 +18,9 @@ pub plus-requires : goal.plus-requires
 unfolding last_due latest_of
 plus-requires c =
     let last : c.last_release-last.result ≡ last_due c.args.ledger =
-        let l = c.args.ledger in
-        c.last_release-last.ensures
-        ∙ ap (latest_of (next_of l.clock) (in_use l.feeds)) c.last_deadline.ensures in
+    let l = c.args.ledger in
+    c.last_release-last.ensures
+    ∙ ap (latest_of (next_of l.clock) (in_use l.feeds)) c.last_deadline.ensures in
     omega (
       arith,
       ap (λ i. i.0) last,
@@ -35,7 +34,7 @@ pub returns : goal.returns
 unfolding horizon_of last_due latest_of
 returns c =
     let last : c.last_release-last.result ≡ last_due c.args.ledger =
-        let l = c.args.ledger in
-        c.last_release-last.ensures
-        ∙ ap (latest_of (next_of l.clock) (in_use l.feeds)) c.last_deadline.ensures in
+    let l = c.args.ledger in
+    c.last_release-last.ensures
+    ∙ ap (latest_of (next_of l.clock) (in_use l.feeds)) c.last_deadline.ensures in
     c.plus.ensures ∙ (λ i. plus (last i) (c.round.ensures i))

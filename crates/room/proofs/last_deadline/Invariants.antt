@@ -1,13 +1,9 @@
 -- `room::last_deadline` meets its contract: the latest so far and the jobs that are left make the whole.
-use mathlib.Core.Path.{◌≡◌, refl}
+use mathlib.Core.Path.{◌≡◌}
 use Prim.Native.Nat.{◌-◌, ◌≤◌}
-use native.Mathlib.Omega.{arith}
-use borrow.Author.Rules.{rules}
-use lib.ListN.{length, drop}
-use Rattle.lists.proofs.Places.{length_mapped, next_live, no_more_live}
-use Rattle.jobs.specs.Jobs.{live, no_job}
+use lib.ListN.{drop}
+use Rattle.jobs.specs.Jobs.{live}
 use Rattle.room.specs.Ahead.{latest_of}
-use Rattle.room.proofs.Ahead.{latest_goes_on, latest_done}
 use Rattle.room.proofs.last_deadline.Given as goal
 
 abbrev pub invariant-loop-i : goal.invariant-loop-i

@@ -1,13 +1,9 @@
 -- `room::last_release` meets its contract: the latest so far and the feeds that are left make the whole.
-use mathlib.Core.Path.{◌≡◌, refl}
+use mathlib.Core.Path.{◌≡◌}
 use Prim.Native.Nat.{◌-◌, ◌≤◌}
-use native.Mathlib.Omega.{arith}
-use borrow.Author.Rules.{rules}
-use lib.ListN.{length, drop}
-use Rattle.lists.proofs.Places.{length_mapped, next_live, no_more_live, each_live}
-use Rattle.feeds.specs.Feeds.{in_use, no_feed, FeedIn}
+use lib.ListN.{drop}
+use Rattle.feeds.specs.Feeds.{in_use}
 use Rattle.room.specs.Ahead.{latest_of, next_of}
-use Rattle.room.proofs.Ahead.{latest_goes_on, latest_done}
 use Rattle.room.proofs.last_release.Given as goal
 
 abbrev pub invariant-loop-i : goal.invariant-loop-i

@@ -2,11 +2,10 @@
 use mathlib.Core.Path.{◌≡◌, ap}
 use Prim.Native.Nat.{◌+◌}
 use native.Mathlib.Omega.{arith}
-use borrow.Author.Rules.{rules}
 use Rattle.ticks.specs.Ticks.{ticks}
 use Rattle.edf.specs.Owed.{owed_by}
 use Rattle.ledger.specs.Books.{book_of}
-use Rattle.room.proofs.Owed.{owed_by_is, jobs_owe_little, feeds_ordered}
+use Rattle.room.proofs.Owed.{owed_by_is, jobs_owe_little}
 use Rattle.room.proofs.owed_by.Goals as goal
 
 -- jobs and feeds together owe far less than a number holds

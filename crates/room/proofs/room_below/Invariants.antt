@@ -1,17 +1,7 @@
 -- `room::room_below` meets its contract: by every instant from the one that is reached on there is room.
-use mathlib.Core.Path.{◌≡◌, sym, ap, subst, ◌∙◌}
-use Prim.Native.Nat.{ℕ, suc, ◌+◌, ◌-◌, ◌≤◌, ◌<◌}
-use native.Mathlib.Nat.{le_refl}
-use native.Mathlib.Omega.{arith}
-use borrow.Author.Rules.{rules}
-use borrow.Author.Tests.{ltb-true, ltb-false}
-use Rattle.lists.proofs.Tests.{false_not_true}
-use Rattle.edf.specs.Book.{Book}
-use Rattle.edf.specs.Owed.{owed_by}
+use Prim.Native.Nat.{◌≤◌}
 use Rattle.ledger.specs.Books.{book_of}
-use Rattle.ledger.proofs.InOrder.{state_in_order}
 use Rattle.room.specs.Walk.{RoomFrom}
-use Rattle.room.proofs.Walk.{room_last, room_back, room_all, room_stops}
 use Rattle.room.proofs.room_below.Given as goal
 
 abbrev pub invariant-loop-ledger : goal.invariant-loop-ledger

@@ -1,11 +1,9 @@
 -- `serving::foremost` meets its contract: the foremost feed, or the first job before it.
 use mathlib.Core.Path.{ap, ◌∙◌}
-use native.Mathlib.Omega.{arith}
 use Rattle.feeds.specs.Feeds.{in_use}
 use Rattle.jobs.specs.Jobs.{live}
 use Rattle.serving.specs.Front.{foremost_over, job_fronts}
 use Rattle.serving.proofs.Front.{foremost_is_runner}
-use Rattle.serving.proofs.Steps.{owing_jobs}
 use Rattle.serving.proofs.foremost.Goals as goal
 
 pub returns : goal.returns

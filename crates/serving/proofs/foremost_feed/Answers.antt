@@ -1,13 +1,13 @@
 -- `serving::foremost_feed` meets its contract: from the last feed down, the best so far is the foremost of those passed.
 use mathlib.Core.Path.{◌≡◌, sym, ap, ◌∙◌}
 use mathlib.Core.List.{◌∷◌}
-use Prim.Native.Nat.{suc, ◌+◌, ◌-◌, ◌≤◌}
+use Prim.Native.Nat.{suc, ◌+◌, ◌-◌}
 use native.Mathlib.Numerals.{add-one}
 use native.Mathlib.Omega.{arith}
 use borrow.Author.Rules.{rules}
 use lib.ListN.{length, get_or, drop}
-use Rattle.lists.proofs.Places.{length_mapped, next_live, no_more_live, each_live}
-use Rattle.feeds.specs.Feeds.{no_feed, in_use, FeedIn}
+use Rattle.lists.proofs.Places.{length_mapped, next_live, no_more_live}
+use Rattle.feeds.specs.Feeds.{no_feed, in_use}
 use Rattle.serving.specs.Front.{foremost_over, feed_fronts, first_of_two, nobody_front}
 use Rattle.serving.proofs.foremost_feed.Goals as goal
 
@@ -15,7 +15,7 @@ pub loop-i-init : goal.loop-i-init
 unfolding foremost_over
 loop-i-init c =
     let long : length c.args.feeds.feeds ≡ 16 =
-        search (rules, length_mapped) in
+    search (rules, length_mapped) in
     let feeds = c.args.feeds in
     let many = long in (
       omega arith,
@@ -28,7 +28,7 @@ pub loop-i-preserved : goal.loop-i-preserved
 unfolding foremost_over
 loop-i-preserved c =
     let long : length c.args.feeds.feeds ≡ 16 =
-        search (rules, length_mapped) in
+    search (rules, length_mapped) in
     let feeds = c.args.feeds in
     let t = c.args.clock in
     let k = c.loop-i.i - 1 in

@@ -1,14 +1,9 @@
 -- `serving::foremost_feed` meets its contract: from the last feed down, the best so far is the foremost of those passed.
-use mathlib.Core.Path.{◌≡◌, sym, ap, ◌∙◌}
-use mathlib.Core.List.{◌∷◌}
-use Prim.Native.Nat.{suc, ◌+◌, ◌-◌, ◌≤◌}
-use native.Mathlib.Numerals.{add-one}
-use native.Mathlib.Omega.{arith}
-use borrow.Author.Rules.{rules}
-use lib.ListN.{length, get_or, drop}
-use Rattle.lists.proofs.Places.{length_mapped, next_live, no_more_live, each_live}
-use Rattle.feeds.specs.Feeds.{no_feed, in_use, FeedIn}
-use Rattle.serving.specs.Front.{foremost_over, feed_fronts, first_of_two, nobody_front}
+use mathlib.Core.Path.{◌≡◌}
+use Prim.Native.Nat.{suc, ◌≤◌}
+use lib.ListN.{drop}
+use Rattle.feeds.specs.Feeds.{in_use}
+use Rattle.serving.specs.Front.{foremost_over, feed_fronts, nobody_front}
 use Rattle.serving.proofs.foremost_feed.Given as goal
 
 abbrev pub invariant-loop-i : goal.invariant-loop-i

@@ -1,8 +1,7 @@
 -- `serving::serve_feeds` meets its contract: the feed that gets the tick, or none.
-use mathlib.Core.Path.{sym, ap, subst, ◌∙◌}
-use borrow.Author.Rules.{rules}
-use Rattle.feeds.specs.Feeds.{in_use, feeds_of}
-use Rattle.serving.specs.Tick.{Owed, served_feeds}
+use mathlib.Core.Path.{subst}
+use Rattle.feeds.specs.Feeds.{in_use}
+use Rattle.serving.specs.Tick.{Owed}
 use Rattle.serving.proofs.serve_feeds.Goals as goal
 
 pub serve-requires : goal.serve-requires

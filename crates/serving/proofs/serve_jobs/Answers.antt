@@ -1,6 +1,5 @@
 -- `serving::serve_jobs` meets its contract: the job that gets the tick, or none.
 use mathlib.Core.Path.{sym, ap, ◌∙◌}
-use borrow.Author.Rules.{rules}
 use Rattle.jobs.specs.Jobs.{live, table_of}
 use Rattle.jobs.specs.Figures.{figured}
 use Rattle.jobs.proofs.Figures.{figured_own}

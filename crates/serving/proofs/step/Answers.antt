@@ -4,7 +4,6 @@ use mathlib.Core.Bool.{true}
 use mathlib.Core.List.{map}
 use native.Mathlib.Omega.{arith}
 use lib.Dec.{ltb}
-use borrow.Author.Rules.{rules}
 use borrow.Author.Tests.{not-true, not-false}
 use Rattle.lists.specs.Lists.{Each}
 use Rattle.ticks.specs.Ticks.{last_instant}
@@ -26,13 +25,13 @@ use Rattle.serving.proofs.step.Goals as goal
 pub returns-then-not-is_after : goal.returns-then-not-is_after
 returns-then-not-is_after c =
     let tested : c.is_after.result ≡ ltb c.args.ledger.clock.0 last_instant =
-        c.is_after.ensures ∙ ap (λ t. ltb c.args.ledger.clock.0 t.0) c.last-last.ensures in
+    c.is_after.ensures ∙ ap (λ t. ltb c.args.ledger.clock.0 t.0) c.last-last.ensures in
     stepped_refused c.args.ledger (sym tested ∙ not-true _ c.if-not-is_after.true-raw)
 
 pub serve_feeds-requires : goal.serve_feeds-requires
 serve_feeds-requires c =
     let runs : (runner (book_of c.args.ledger)).who ≡ who_of c.foremost-front.result.who =
-        front_who (book_of c.args.ledger) c.foremost-front.result c.foremost-front.ensures in
+    front_who (book_of c.args.ledger) c.foremost-front.result c.foremost-front.ensures in
     let l = c.args.ledger in
     (c.requires.tidy_feeds, runner_owed c.foremost-front.result.who l.charge l.clock (in_use l.feeds) (live l.table) runs)
 
@@ -48,14 +47,14 @@ serve_jobs-table-requires c = (c.requires.tidy_table, owing_jobs c.args.ledger c
 pub returns : goal.returns
 returns c =
     let tested : c.is_after.result ≡ ltb c.args.ledger.clock.0 last_instant =
-        c.is_after.ensures ∙ ap (λ t. ltb c.args.ledger.clock.0 t.0) c.last-last.ensures in
+    c.is_after.ensures ∙ ap (λ t. ltb c.args.ledger.clock.0 t.0) c.last-last.ensures in
     let written : c.moved.result ≡ given c.args.ledger c.foremost-front.result.who =
-        let l = c.args.ledger in
-        let gs = served_feeds c.foremost-front.result.who (in_use l.feeds) in
-        let clock = c.next-clock.ensures in
-        let served = ap in_use c.serve_feeds.ensures ∙ in_use_of gs in
-        let feeds = c.arrive-feeds.ensures ∙ (λ i. feeds_of (map (arrived l.charge (clock i)) (served i))) in
-        c.moved.ensures ∙ (λ i. moved l (clock i) (feeds i) (c.serve_jobs-table.ensures i)) in
+    let l = c.args.ledger in
+    let gs = served_feeds c.foremost-front.result.who (in_use l.feeds) in
+    let clock = c.next-clock.ensures in
+    let served = ap in_use c.serve_feeds.ensures ∙ in_use_of gs in
+    let feeds = c.arrive-feeds.ensures ∙ (λ i. feeds_of (map (arrived l.charge (clock i)) (served i))) in
+    c.moved.ensures ∙ (λ i. moved l (clock i) (feeds i) (c.serve_jobs-table.ensures i)) in
     let early : ltb c.args.ledger.clock.0 last_instant ≡ true = sym tested ∙ not-false _ c.if-not-is_after.false-raw in
     (λ i. record {
       ledger = written i;

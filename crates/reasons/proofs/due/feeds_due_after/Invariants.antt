@@ -1,17 +1,11 @@
 -- `reasons::due::feeds_due_after` meets its contract: up to the instant found so far nothing comes due, but for the feeds that are
 -- left to look at.
-use mathlib.Core.Path.{◌≡◌}
 use Prim.Native.Nat.{◌-◌, ◌≤◌, ◌<◌}
-use native.Mathlib.Nat.{le_refl}
-use native.Mathlib.Omega.{arith}
-use borrow.Author.Rules.{rules}
-use lib.ListN.{length, drop}
-use Rattle.lists.proofs.Places.{length_mapped, next_live, no_more_live, each_live}
+use lib.ListN.{drop}
 use Rattle.ticks.specs.declared.Length.{Length}
-use Rattle.ticks.specs.Ticks.{ticks}
-use Rattle.feeds.specs.Feeds.{in_use, no_feed, FeedIn}
+use Rattle.feeds.specs.Feeds.{in_use}
 use Rattle.room.specs.Owed.{feed_owes}
-use Rattle.reasons.proofs.Until.{StillBut, still_first, still_next, still_last}
+use Rattle.reasons.proofs.Until.{StillBut}
 use Rattle.reasons.proofs.due.feeds_due_after.Given as goal
 
 abbrev pub invariant-loop-i : goal.invariant-loop-i

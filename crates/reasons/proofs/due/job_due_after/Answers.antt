@@ -1,7 +1,6 @@
 -- `reasons::due::job_due_after` meets its contract, by whether the deadline has come.
 use mathlib.Core.Path.{sym, ◌∙◌}
 use native.Mathlib.Nat.{le_refl}
-use borrow.Author.Rules.{rules}
 use borrow.Author.Tests.{ltb-true, ltb-false}
 use Rattle.jobs.specs.Figures.{owes_by}
 use Rattle.reasons.proofs.Until.{until_cut, job_still_past, job_still_before}

@@ -1,15 +1,10 @@
 -- `reasons::due::jobs_due_after` meets its contract: up to the instant found so far nothing comes due, but for the jobs that are
 -- left to look at.
-use mathlib.Core.Path.{◌≡◌}
 use Prim.Native.Nat.{◌-◌, ◌≤◌, ◌<◌}
-use native.Mathlib.Nat.{le_refl}
-use native.Mathlib.Omega.{arith}
-use borrow.Author.Rules.{rules}
-use lib.ListN.{length, drop}
-use Rattle.lists.proofs.Places.{length_mapped, next_live, no_more_live}
-use Rattle.jobs.specs.Jobs.{live, no_job}
+use lib.ListN.{drop}
+use Rattle.jobs.specs.Jobs.{live}
 use Rattle.jobs.specs.Figures.{owes_by}
-use Rattle.reasons.proofs.Until.{StillBut, still_first, still_next, still_last}
+use Rattle.reasons.proofs.Until.{StillBut}
 use Rattle.reasons.proofs.due.jobs_due_after.Given as goal
 
 abbrev pub invariant-loop-i : goal.invariant-loop-i

@@ -3,7 +3,6 @@ use mathlib.Core.Path.{◌≡◌, sym, ◌∙◌}
 use mathlib.Core.Bool.{Bool}
 use native.Mathlib.Omega.{arith}
 use lib.Dec.{leb}
-use borrow.Author.Rules.{rules}
 use borrow.Author.Tests.{ltb-true, ltb-false}
 use Rattle.edf.specs.Step.{first, sooner}
 use Rattle.serving.proofs.Order.{first_below, first_above, first_same, name_is}
@@ -22,8 +21,8 @@ unfolding sooner
 returns-then-mine-theirs c =
     let level : (x r : Bool) → x ≡ r →
     x ≡ first c.args.self.due.0 c.args.other.due.0 r =
-        λ x. λ r. first_same _ _ r x (ltb-false _ _ (sym c.is_after-2.ensures ∙ c.if-is_after-2.false))
-        (ltb-false _ _ (sym c.is_after.ensures ∙ c.if-is_after.false)) in
+    λ x. λ r. first_same _ _ r x (ltb-false _ _ (sym c.is_after-2.ensures ∙ c.if-is_after-2.false))
+    (ltb-false _ _ (sym c.is_after.ensures ∙ c.if-is_after.false)) in
     level _ _ (first_below _ _ _ (omega (arith, c.if-mine-theirs.true, c.rank-mine.ensures, c.rank-theirs.ensures)))
 
 pub returns-then-theirs-mine : goal.returns-then-theirs-mine
@@ -31,8 +30,8 @@ unfolding sooner
 returns-then-theirs-mine c =
     let level : (x r : Bool) → x ≡ r →
     x ≡ first c.args.self.due.0 c.args.other.due.0 r =
-        λ x. λ r. first_same _ _ r x (ltb-false _ _ (sym c.is_after-2.ensures ∙ c.if-is_after-2.false))
-        (ltb-false _ _ (sym c.is_after.ensures ∙ c.if-is_after.false)) in
+    λ x. λ r. first_same _ _ r x (ltb-false _ _ (sym c.is_after-2.ensures ∙ c.if-is_after-2.false))
+    (ltb-false _ _ (sym c.is_after.ensures ∙ c.if-is_after.false)) in
     level _ _ (first_above _ _ _ (omega (arith, c.if-theirs-mine.true, c.rank-mine.ensures, c.rank-theirs.ensures)))
 
 pub returns : goal.returns
@@ -40,8 +39,8 @@ unfolding sooner
 returns c =
     let level : (x r : Bool) → x ≡ r →
     x ≡ first c.args.self.due.0 c.args.other.due.0 r =
-        λ x. λ r. first_same _ _ r x (ltb-false _ _ (sym c.is_after-2.ensures ∙ c.if-is_after-2.false))
-        (ltb-false _ _ (sym c.is_after.ensures ∙ c.if-is_after.false)) in
+    λ x. λ r. first_same _ _ r x (ltb-false _ _ (sym c.is_after-2.ensures ∙ c.if-is_after-2.false))
+    (ltb-false _ _ (sym c.is_after.ensures ∙ c.if-is_after.false)) in
     let a = c.args in
     level _ _
     (first_same _ _ _ _
