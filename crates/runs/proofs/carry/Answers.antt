@@ -18,8 +18,7 @@ loop-steps-init c =
 
 pub stepped-requires : goal.stepped-requires
 stepped-requires c =
-    let taken : is_yes c.step-stepped.result.verdict ≡ true =
-    sym c.is_yes.ensures ∙ c.if-not-is_yes.false in
+    let taken : is_yes c.step-stepped.result.verdict ≡ true = sym c.is_yes.ensures ∙ c.if-not-is_yes.false in
     let l = c.loop-steps in
     let d = l.desk in
     let k : l.page.cursor.clock ≡ clock_of d = l.invariant.clock in
@@ -27,8 +26,7 @@ stepped-requires c =
 
 pub loop-steps-preserved : goal.loop-steps-preserved
 loop-steps-preserved c =
-    let taken : is_yes c.step-stepped.result.verdict ≡ true =
-    sym c.is_yes.ensures ∙ c.if-not-is_yes.false in
+    let taken : is_yes c.step-stepped.result.verdict ≡ true = sym c.is_yes.ensures ∙ c.if-not-is_yes.false in
     one_more c.loop-steps.invariant c.loop-steps-test.true (sym c.any.ensures ∙ c.if-any.false) c.step-stepped.ensures taken c.stepped.ensures c.write_due-page-in-loop-steps.ensures.0 c.write_due-page-in-loop-steps.ensures.1
 
 pub returns-after-loop-steps : goal.returns-after-loop-steps

@@ -23,8 +23,7 @@ returns-then-not-in_order c =
 
 pub returns-then-not-ordered_at : goal.returns-then-not-ordered_at
 returns-then-not-ordered_at c =
-    let fine : not (in_order c.args.desk) ≡ false =
-    ap not (sym c.in_order.ensures ∙ c.if-not-in_order.false) in
+    let fine : not (in_order c.args.desk) ≡ false = ap not (sym c.in_order.ensures ∙ c.if-not-in_order.false) in
     let a = c.args in
     let k = went_no (length a.out.now) a.most a.desk a.cursor NotInOrder (goes_on_lem _ _ _ fine (stops _ _ (ap not (sym c.ordered_at.ensures ∙ c.if-not-ordered_at.true)))) in
     (c.refused-then-not-ordered_at.ensures ∙ k.0, front_untouched k.1)
@@ -36,10 +35,8 @@ carry-going-requires c = eqb-true _ _ (both _ _ (sym c.ordered_at.ensures ∙ c.
 pub returns-then-is_stuck : goal.returns-then-is_stuck
 unfolding stuck
 returns-then-is_stuck c =
-    let fine : not (in_order c.args.desk) ≡ false =
-    ap not (sym c.in_order.ensures ∙ c.if-not-in_order.false) in
-    let there : not (ordered_at (clock_of c.args.desk) c.args.cursor) ≡ false =
-    ap not (sym c.ordered_at.ensures ∙ c.if-not-ordered_at.false) in
+    let fine : not (in_order c.args.desk) ≡ false = ap not (sym c.in_order.ensures ∙ c.if-not-in_order.false) in
+    let there : not (ordered_at (clock_of c.args.desk) c.args.cursor) ≡ false = ap not (sym c.ordered_at.ensures ∙ c.if-not-ordered_at.false) in
     let short : stuck (part_of (length c.args.out.now) c.args.most c.args.desk c.args.cursor) ≡ c.is_stuck.result =
     let k = c.carry-going.ensures in
     sym (c.is_stuck.ensures ∙ (λ i. eqb (put_in_front_next k.put i) 0 && any_due (k.cursor i).due)) in
@@ -51,10 +48,8 @@ returns-then-is_stuck c =
 pub returns : goal.returns
 unfolding stuck
 returns c =
-    let fine : not (in_order c.args.desk) ≡ false =
-    ap not (sym c.in_order.ensures ∙ c.if-not-in_order.false) in
-    let there : not (ordered_at (clock_of c.args.desk) c.args.cursor) ≡ false =
-    ap not (sym c.ordered_at.ensures ∙ c.if-not-ordered_at.false) in
+    let fine : not (in_order c.args.desk) ≡ false = ap not (sym c.in_order.ensures ∙ c.if-not-in_order.false) in
+    let there : not (ordered_at (clock_of c.args.desk) c.args.cursor) ≡ false = ap not (sym c.ordered_at.ensures ∙ c.if-not-ordered_at.false) in
     let short : stuck (part_of (length c.args.out.now) c.args.most c.args.desk c.args.cursor) ≡ c.is_stuck.result =
     let k = c.carry-going.ensures in
     sym (c.is_stuck.ensures ∙ (λ i. eqb (put_in_front_next k.put i) 0 && any_due (k.cursor i).due)) in

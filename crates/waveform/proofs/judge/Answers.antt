@@ -16,8 +16,7 @@ use Rattle.waveform.proofs.judge.Goals as goal
 
 pub returns-in_default : goal.returns-in_default
 returns-in_default c =
-    let here : Reading =
-    reading c.loop-from.state c.loop-from.lines c.loop-from.start c.loop-from.ended in
+    let here : Reading = reading c.loop-from.state c.loop-from.lines c.loop-from.start c.loop-from.ended in
     let text = c.args.text.now in
     ap Wrong (add-one c.loop-from.lines) ∙ sym (c.loop-from.invariant.3 ∙ judge_tail here text c.loop-from.from c.loop-from-test.true (sym c.line_end.ensures ∙ c.in_default.is))
 
@@ -41,8 +40,7 @@ slice_bounds-read_line-end c =
 
 pub returns-then-is_dead : goal.returns-then-is_dead
 returns-then-is_dead c =
-    let here : Reading =
-    reading c.loop-from.state c.loop-from.lines c.loop-from.start c.loop-from.ended in
+    let here : Reading = reading c.loop-from.state c.loop-from.lines c.loop-from.start c.loop-from.ended in
     let the-cut : Cut newline c.args.text.now c.loop-from.from c.in-At.end =
     cut_at newline _ c.loop-from.from _ (sym c.line_end.ensures ∙ c.in-At.is) in
     let after : c.next-state.result ≡ next c.loop-from.state (says (take (c.in-At.end - c.loop-from.from) (drop c.loop-from.from c.args.text.now))) =
@@ -65,8 +63,7 @@ loop-from-smaller c =
 
 pub loop-from-preserved : goal.loop-from-preserved
 loop-from-preserved c =
-    let here : Reading =
-    reading c.loop-from.state c.loop-from.lines c.loop-from.start c.loop-from.ended in
+    let here : Reading = reading c.loop-from.state c.loop-from.lines c.loop-from.start c.loop-from.ended in
     let the-cut : Cut newline c.args.text.now c.loop-from.from c.in-At.end =
     cut_at newline _ c.loop-from.from _ (sym c.line_end.ensures ∙ c.in-At.is) in
     let after : c.next-state.result ≡ next c.loop-from.state (says (take (c.in-At.end - c.loop-from.from) (drop c.loop-from.from c.args.text.now))) =
@@ -91,8 +88,7 @@ loop-from-preserved c =
 
 pub returns-then-done : goal.returns-then-done
 returns-then-done c =
-    let here : Reading =
-    reading c.loop-from.state c.loop-from.lines c.loop-from.start c.loop-from.ended in
+    let here : Reading = reading c.loop-from.state c.loop-from.lines c.loop-from.start c.loop-from.ended in
     let ended : judged c.args.text.now ≡ end_read here =
     let text = c.args.text.now in
     c.loop-from.invariant.3 ∙ judge_end here (drop c.loop-from.from text) (drop_of_length-le text c.loop-from-test.false) in
@@ -102,8 +98,7 @@ returns-then-done c =
 
 pub returns : goal.returns
 returns c =
-    let here : Reading =
-    reading c.loop-from.state c.loop-from.lines c.loop-from.start c.loop-from.ended in
+    let here : Reading = reading c.loop-from.state c.loop-from.lines c.loop-from.start c.loop-from.ended in
     let ended : judged c.args.text.now ≡ end_read here =
     let text = c.args.text.now in
     c.loop-from.invariant.3 ∙ judge_end here (drop c.loop-from.from text) (drop_of_length-le text c.loop-from-test.false) in

@@ -13,15 +13,13 @@ returns-then-is_word c =
 pub returns-then-is_word-2 : goal.returns-then-is_word-2
 returns-then-is_word-2 c =
     let s = c.args.s.now in
-    let past1 : head_in head_lines 0 s ≡ head_in (drop 1 head_lines) 1 s =
-    head_past _ _ _ _ (sym c.is_word.ensures ∙ c.if-is_word.false) in
+    let past1 : head_in head_lines 0 s ≡ head_in (drop 1 head_lines) 1 s = head_past _ _ _ _ (sym c.is_word.ensures ∙ c.if-is_word.false) in
     sym (past1 ∙ head_here _ _ _ _ (sym c.is_word-2.ensures ∙ c.if-is_word-2.true))
 
 pub returns-then-is_word-3 : goal.returns-then-is_word-3
 returns-then-is_word-3 c =
     let s = c.args.s.now in
-    let past1 : head_in head_lines 0 s ≡ head_in (drop 1 head_lines) 1 s =
-    head_past _ _ _ _ (sym c.is_word.ensures ∙ c.if-is_word.false) in
+    let past1 : head_in head_lines 0 s ≡ head_in (drop 1 head_lines) 1 s = head_past _ _ _ _ (sym c.is_word.ensures ∙ c.if-is_word.false) in
     let past2 : head_in head_lines 0 s ≡ head_in (drop 2 head_lines) 2 s =
     past1 ∙ head_past _ _ _ _ (sym c.is_word-2.ensures ∙ c.if-is_word-2.false) in
     sym (past2 ∙ head_here _ _ _ _ (sym c.is_word-3.ensures ∙ c.if-is_word-3.true))
@@ -29,8 +27,7 @@ returns-then-is_word-3 c =
 pub returns-then-is_word-4 : goal.returns-then-is_word-4
 returns-then-is_word-4 c =
     let s = c.args.s.now in
-    let past1 : head_in head_lines 0 s ≡ head_in (drop 1 head_lines) 1 s =
-    head_past _ _ _ _ (sym c.is_word.ensures ∙ c.if-is_word.false) in
+    let past1 : head_in head_lines 0 s ≡ head_in (drop 1 head_lines) 1 s = head_past _ _ _ _ (sym c.is_word.ensures ∙ c.if-is_word.false) in
     let past2 : head_in head_lines 0 s ≡ head_in (drop 2 head_lines) 2 s =
     past1 ∙ head_past _ _ _ _ (sym c.is_word-2.ensures ∙ c.if-is_word-2.false) in
     let past3 : head_in head_lines 0 s ≡ head_in (drop 3 head_lines) 3 s =
@@ -40,8 +37,7 @@ returns-then-is_word-4 c =
 pub returns-then-is_word-5 : goal.returns-then-is_word-5
 returns-then-is_word-5 c =
     let s = c.args.s.now in
-    let past1 : head_in head_lines 0 s ≡ head_in (drop 1 head_lines) 1 s =
-    head_past _ _ _ _ (sym c.is_word.ensures ∙ c.if-is_word.false) in
+    let past1 : head_in head_lines 0 s ≡ head_in (drop 1 head_lines) 1 s = head_past _ _ _ _ (sym c.is_word.ensures ∙ c.if-is_word.false) in
     let past2 : head_in head_lines 0 s ≡ head_in (drop 2 head_lines) 2 s =
     past1 ∙ head_past _ _ _ _ (sym c.is_word-2.ensures ∙ c.if-is_word-2.false) in
     let past3 : head_in head_lines 0 s ≡ head_in (drop 3 head_lines) 3 s =
@@ -53,8 +49,7 @@ returns-then-is_word-5 c =
 pub returns-then-is_word-6 : goal.returns-then-is_word-6
 returns-then-is_word-6 c =
     let s = c.args.s.now in
-    let past1 : head_in head_lines 0 s ≡ head_in (drop 1 head_lines) 1 s =
-    head_past _ _ _ _ (sym c.is_word.ensures ∙ c.if-is_word.false) in
+    let past1 : head_in head_lines 0 s ≡ head_in (drop 1 head_lines) 1 s = head_past _ _ _ _ (sym c.is_word.ensures ∙ c.if-is_word.false) in
     let past2 : head_in head_lines 0 s ≡ head_in (drop 2 head_lines) 2 s =
     past1 ∙ head_past _ _ _ _ (sym c.is_word-2.ensures ∙ c.if-is_word-2.false) in
     let past3 : head_in head_lines 0 s ≡ head_in (drop 3 head_lines) 3 s =
@@ -68,8 +63,7 @@ returns-then-is_word-6 c =
 pub returns : goal.returns
 returns c =
     let s = c.args.s.now in
-    let past1 : head_in head_lines 0 s ≡ head_in (drop 1 head_lines) 1 s =
-    head_past _ _ _ _ (sym c.is_word.ensures ∙ c.if-is_word.false) in
+    let past1 : head_in head_lines 0 s ≡ head_in (drop 1 head_lines) 1 s = head_past _ _ _ _ (sym c.is_word.ensures ∙ c.if-is_word.false) in
     let past2 : head_in head_lines 0 s ≡ head_in (drop 2 head_lines) 2 s =
     past1 ∙ head_past _ _ _ _ (sym c.is_word-2.ensures ∙ c.if-is_word-2.false) in
     let past3 : head_in head_lines 0 s ≡ head_in (drop 3 head_lines) 3 s =

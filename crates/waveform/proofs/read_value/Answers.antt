@@ -21,8 +21,7 @@ returns-then-s-lt2 c =
 pub returns-then-s-gap-ne32 : goal.returns-then-s-gap-ne32
 unfolding value_of
 returns-then-s-gap-ne32 c =
-    let long : leb 2 (length c.args.s.now) ≡ true =
-    le-leb 2 (length c.args.s.now) c.if-s-lt2.false in
+    let long : leb 2 (length c.args.s.now) ≡ true = le-leb 2 (length c.args.s.now) c.if-s-lt2.false in
     rw (long, ne_eqb _ _ c.if-s-gap-ne32.true)
 
 pub value-requires : goal.value-requires
@@ -31,8 +30,7 @@ value-requires c = subst Narrow (sym c.read_bits.ensures) (bits_narrow _)
 pub returns : goal.returns
 unfolding value_of
 returns c =
-    let long : leb 2 (length c.args.s.now) ≡ true =
-    le-leb 2 (length c.args.s.now) c.if-s-lt2.false in
+    let long : leb 2 (length c.args.s.now) ≡ true = le-leb 2 (length c.args.s.now) c.if-s-lt2.false in
     let s = c.args.s.now in
     let test : leb 2 (length s) && eqb (get_or s (length s - 2) 0) space ≡ true = λ i. long i && eq-eqb (get_or s (length s - 2) 0) space c.if-s-gap-ne32.false i in
     c.value.ensures

@@ -12,32 +12,27 @@ returns-in_default c = go_of_one _ (sym c.find.ensures ∙ c.in_default.is)
 
 pub overflow_add-last : goal.overflow_add-last
 overflow_add-last c =
-    let the-cut : Cut space c.args.s.now 0 c.in-At.end =
-    cut_at space _ 0 _ (sym c.find.ensures ∙ c.in-At.is) in
+    let the-cut : Cut space c.args.s.now 0 c.in-At.end = cut_at space _ 0 _ (sym c.find.ensures ∙ c.in-At.is) in
     omega (arith, the-cut.inside)
 
 pub slice_bounds-read_number-end : goal.slice_bounds-read_number-end
 slice_bounds-read_number-end c =
-    let the-cut : Cut space c.args.s.now 0 c.in-At.end =
-    cut_at space _ 0 _ (sym c.find.ensures ∙ c.in-At.is) in
+    let the-cut : Cut space c.args.s.now 0 c.in-At.end = cut_at space _ 0 _ (sym c.find.ensures ∙ c.in-At.is) in
     sym (length-take-le _ _ (omega (arith, the-cut.inside)))
 
 pub slice_bounds-read_small-count : goal.slice_bounds-read_small-count
 slice_bounds-read_small-count c =
-    let the-cut : Cut space c.args.s.now 0 c.in-At.end =
-    cut_at space _ 0 _ (sym c.find.ensures ∙ c.in-At.is) in
+    let the-cut : Cut space c.args.s.now 0 c.in-At.end = cut_at space _ 0 _ (sym c.find.ensures ∙ c.in-At.is) in
     omega (arith, the-cut.inside)
 
 pub slice_bounds-read_small-start : goal.slice_bounds-read_small-start
 slice_bounds-read_small-start c =
-    let the-cut : Cut space c.args.s.now 0 c.in-At.end =
-    cut_at space _ 0 _ (sym c.find.ensures ∙ c.in-At.is) in
+    let the-cut : Cut space c.args.s.now 0 c.in-At.end = cut_at space _ 0 _ (sym c.find.ensures ∙ c.in-At.is) in
     omega (arith, the-cut.inside)
 
 pub returns : goal.returns
 returns c =
-    let the-cut : Cut space c.args.s.now 0 c.in-At.end =
-    cut_at space _ 0 _ (sym c.find.ensures ∙ c.in-At.is) in
+    let the-cut : Cut space c.args.s.now 0 c.in-At.end = cut_at space _ 0 _ (sym c.find.ensures ∙ c.in-At.is) in
     c.going.ensures
     ∙ rw (c.read_number.ensures, c.read_small.ensures)
     (sym (go_cut _ _ the-cut))

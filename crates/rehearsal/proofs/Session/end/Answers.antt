@@ -9,15 +9,13 @@ use Rattle.rehearsal.proofs.Session.end.Goals as goal
 pub returns-then-not-self : goal.returns-then-not-self
 unfolding end_of
 returns-then-not-self c =
-    let shut : c.args.self.opened ≡ false =
-    not-true _ c.if-not-self.true in
+    let shut : c.args.self.opened ≡ false = not-true _ c.if-not-self.true in
     c.bad.ensures ∙ rw shut
 
 pub returns : goal.returns
 unfolding end_of
 returns c =
-    let opened : c.args.self.opened ≡ true =
-    not-false _ c.if-not-self.false in
+    let opened : c.args.self.opened ≡ true = not-false _ c.if-not-self.false in
     let s = c.args.self in
     (λ i. reply (with_desk s c.end-answer.result.desk) (Said.End (c.answer-refusal.ensures i)))
     ∙ ap (call_of s Said.End) c.end-answer.ensures

@@ -8,13 +8,11 @@ use Rattle.rehearsal.proofs.Session.run.Goals as goal
 pub returns-then-not-self : goal.returns-then-not-self
 unfolding run_of
 returns-then-not-self c =
-    let shut : c.args.self.opened ≡ false =
-    not-true _ c.if-not-self.true in
+    let shut : c.args.self.opened ≡ false = not-true _ c.if-not-self.true in
     c.bad.ensures ∙ rw shut
 
 pub returns : goal.returns
 unfolding run_of
 returns c =
-    let opened : c.args.self.opened ≡ true =
-    not-false _ c.if-not-self.false in
+    let opened : c.args.self.opened ≡ true = not-false _ c.if-not-self.false in
     rw opened

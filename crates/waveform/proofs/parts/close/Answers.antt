@@ -21,8 +21,7 @@ returns-then-not-can_close c =
 
 pub returns-then-is_stuck : goal.returns-then-is_stuck
 returns-then-is_stuck c =
-    let fine : not (is_none c.args.cursor || ordered c.args.cursor) ≡ false =
-    ap not (sym c.can_close.ensures ∙ c.if-not-can_close.false) in
+    let fine : not (is_none c.args.cursor || ordered c.args.cursor) ≡ false = ap not (sym c.can_close.ensures ∙ c.if-not-can_close.false) in
     let short : stuck (closing_lines c.args.cursor) (closing_fitting (length c.args.out.now) c.args.cursor) ≡ c.is_stuck.result =
     let a = c.args in
     let w = c.write_end-page.ensures in
@@ -38,8 +37,7 @@ returns-then-is_stuck c =
 
 pub returns : goal.returns
 returns c =
-    let fine : not (is_none c.args.cursor || ordered c.args.cursor) ≡ false =
-    ap not (sym c.can_close.ensures ∙ c.if-not-can_close.false) in
+    let fine : not (is_none c.args.cursor || ordered c.args.cursor) ≡ false = ap not (sym c.can_close.ensures ∙ c.if-not-can_close.false) in
     let short : stuck (closing_lines c.args.cursor) (closing_fitting (length c.args.out.now) c.args.cursor) ≡ c.is_stuck.result =
     let a = c.args in
     let w = c.write_end-page.ensures in

@@ -20,10 +20,8 @@ use Rattle.waveform.proofs.stretches.next.Goals as goal
 
 pub returns-in_default : goal.returns-in_default
 returns-in_default c =
-    let text : List ℕ =
-    c.args.text.now in
-    let mark : Bookmark =
-    c.args.mark in
+    let text : List ℕ = c.args.text.now in
+    let mark : Bookmark = c.args.mark in
     let whole : next_told text mark ≡ tell c.loop-place.state c.loop-place.place c.loop-place.lines (lines_of (drop c.loop-place.place text)) =
     told_in_order text mark c.state-state.result c.state-state.ensures c.if-mark.false c.if-text-mark.false
     ∙ c.loop-place.invariant.2 in
@@ -32,53 +30,37 @@ returns-in_default c =
 
 pub slice_bounds-read_line-count : goal.slice_bounds-read_line-count
 slice_bounds-read_line-count c =
-    let text : List ℕ =
-    c.args.text.now in
-    let end : ℕ =
-    c.in-At.end in
-    let the-cut : Cut newline text c.loop-place.place end =
-    cut_at newline _ c.loop-place.place _ (sym c.line_end.ensures ∙ c.in-At.is) in
+    let text : List ℕ = c.args.text.now in
+    let end : ℕ = c.in-At.end in
+    let the-cut : Cut newline text c.loop-place.place end = cut_at newline _ c.loop-place.place _ (sym c.line_end.ensures ∙ c.in-At.is) in
     omega (arith, the-cut.after)
 
 pub slice_bounds-read_line-start : goal.slice_bounds-read_line-start
 slice_bounds-read_line-start c =
-    let text : List ℕ =
-    c.args.text.now in
-    let end : ℕ =
-    c.in-At.end in
-    let the-cut : Cut newline text c.loop-place.place end =
-    cut_at newline _ c.loop-place.place _ (sym c.line_end.ensures ∙ c.in-At.is) in
+    let text : List ℕ = c.args.text.now in
+    let end : ℕ = c.in-At.end in
+    let the-cut : Cut newline text c.loop-place.place end = cut_at newline _ c.loop-place.place _ (sym c.line_end.ensures ∙ c.in-At.is) in
     omega (arith, the-cut.after, the-cut.inside)
 
 pub slice_bounds-read_line-end : goal.slice_bounds-read_line-end
 slice_bounds-read_line-end c =
-    let text : List ℕ =
-    c.args.text.now in
-    let end : ℕ =
-    c.in-At.end in
-    let the-cut : Cut newline text c.loop-place.place end =
-    cut_at newline _ c.loop-place.place _ (sym c.line_end.ensures ∙ c.in-At.is) in
+    let text : List ℕ = c.args.text.now in
+    let end : ℕ = c.in-At.end in
+    let the-cut : Cut newline text c.loop-place.place end = cut_at newline _ c.loop-place.place _ (sym c.line_end.ensures ∙ c.in-At.is) in
     omega (arith, the-cut.after, the-cut.inside)
 
 pub returns-then-is_dead : goal.returns-then-is_dead
 returns-then-is_dead c =
-    let end : ℕ =
-    c.in-At.end in
-    let text : List ℕ =
-    c.args.text.now in
-    let said : Token =
-    says (take (end - c.loop-place.place) (drop c.loop-place.place text)) in
-    let after : c.next-state.result ≡ next c.loop-place.state said =
-    c.next-state.ensures ∙ ap (next c.loop-place.state) c.read_line.ensures in
-    let rest : Told =
-    tell (next c.loop-place.state said) (end + 1) (suc c.loop-place.lines) (lines_of (drop (end + 1) text)) in
-    let mark : Bookmark =
-    c.args.mark in
+    let end : ℕ = c.in-At.end in
+    let text : List ℕ = c.args.text.now in
+    let said : Token = says (take (end - c.loop-place.place) (drop c.loop-place.place text)) in
+    let after : c.next-state.result ≡ next c.loop-place.state said = c.next-state.ensures ∙ ap (next c.loop-place.state) c.read_line.ensures in
+    let rest : Told = tell (next c.loop-place.state said) (end + 1) (suc c.loop-place.lines) (lines_of (drop (end + 1) text)) in
+    let mark : Bookmark = c.args.mark in
     let whole : next_told text mark ≡ tell c.loop-place.state c.loop-place.place c.loop-place.lines (lines_of (drop c.loop-place.place text)) =
     told_in_order text mark c.state-state.result c.state-state.ensures c.if-mark.false c.if-text-mark.false
     ∙ c.loop-place.invariant.2 in
-    let the-cut : Cut newline text c.loop-place.place end =
-    cut_at newline _ c.loop-place.place _ (sym c.line_end.ensures ∙ c.in-At.is) in
+    let the-cut : Cut newline text c.loop-place.place end = cut_at newline _ c.loop-place.place _ (sym c.line_end.ensures ∙ c.in-At.is) in
     let on : next_told text mark
     ≡ line_told c.loop-place.state said (end + 1) (suc c.loop-place.lines) rest =
     whole ∙ tell_cut c.loop-place.state text c.loop-place.place c.loop-place.lines end the-cut in
@@ -87,23 +69,16 @@ returns-then-is_dead c =
 
 pub returns-then-ends_one-eq1 : goal.returns-then-ends_one-eq1
 returns-then-ends_one-eq1 c =
-    let end : ℕ =
-    c.in-At.end in
-    let text : List ℕ =
-    c.args.text.now in
-    let said : Token =
-    says (take (end - c.loop-place.place) (drop c.loop-place.place text)) in
-    let after : c.next-state.result ≡ next c.loop-place.state said =
-    c.next-state.ensures ∙ ap (next c.loop-place.state) c.read_line.ensures in
-    let rest : Told =
-    tell (next c.loop-place.state said) (end + 1) (suc c.loop-place.lines) (lines_of (drop (end + 1) text)) in
-    let mark : Bookmark =
-    c.args.mark in
+    let end : ℕ = c.in-At.end in
+    let text : List ℕ = c.args.text.now in
+    let said : Token = says (take (end - c.loop-place.place) (drop c.loop-place.place text)) in
+    let after : c.next-state.result ≡ next c.loop-place.state said = c.next-state.ensures ∙ ap (next c.loop-place.state) c.read_line.ensures in
+    let rest : Told = tell (next c.loop-place.state said) (end + 1) (suc c.loop-place.lines) (lines_of (drop (end + 1) text)) in
+    let mark : Bookmark = c.args.mark in
     let whole : next_told text mark ≡ tell c.loop-place.state c.loop-place.place c.loop-place.lines (lines_of (drop c.loop-place.place text)) =
     told_in_order text mark c.state-state.result c.state-state.ensures c.if-mark.false c.if-text-mark.false
     ∙ c.loop-place.invariant.2 in
-    let the-cut : Cut newline text c.loop-place.place end =
-    cut_at newline _ c.loop-place.place _ (sym c.line_end.ensures ∙ c.in-At.is) in
+    let the-cut : Cut newline text c.loop-place.place end = cut_at newline _ c.loop-place.place _ (sym c.line_end.ensures ∙ c.in-At.is) in
     let on : next_told text mark
     ≡ line_told c.loop-place.state said (end + 1) (suc c.loop-place.lines) rest =
     whole ∙ tell_cut c.loop-place.state text c.loop-place.place c.loop-place.lines end the-cut in
@@ -116,28 +91,19 @@ returns-then-ends_one-eq1 c =
 
 pub loop-place-smaller : goal.loop-place-smaller
 loop-place-smaller c =
-    let text : List ℕ =
-    c.args.text.now in
-    let end : ℕ =
-    c.in-At.end in
-    let the-cut : Cut newline text c.loop-place.place end =
-    cut_at newline _ c.loop-place.place _ (sym c.line_end.ensures ∙ c.in-At.is) in
+    let text : List ℕ = c.args.text.now in
+    let end : ℕ = c.in-At.end in
+    let the-cut : Cut newline text c.loop-place.place end = cut_at newline _ c.loop-place.place _ (sym c.line_end.ensures ∙ c.in-At.is) in
     let k = the-cut in omega (arith, k.inside, k.after)
 
 pub loop-place-preserved : goal.loop-place-preserved
 loop-place-preserved c =
-    let text : List ℕ =
-    c.args.text.now in
-    let end : ℕ =
-    c.in-At.end in
-    let the-cut : Cut newline text c.loop-place.place end =
-    cut_at newline _ c.loop-place.place _ (sym c.line_end.ensures ∙ c.in-At.is) in
-    let said : Token =
-    says (take (end - c.loop-place.place) (drop c.loop-place.place text)) in
-    let after : c.next-state.result ≡ next c.loop-place.state said =
-    c.next-state.ensures ∙ ap (next c.loop-place.state) c.read_line.ensures in
-    let rest : Told =
-    tell (next c.loop-place.state said) (end + 1) (suc c.loop-place.lines) (lines_of (drop (end + 1) text)) in
+    let text : List ℕ = c.args.text.now in
+    let end : ℕ = c.in-At.end in
+    let the-cut : Cut newline text c.loop-place.place end = cut_at newline _ c.loop-place.place _ (sym c.line_end.ensures ∙ c.in-At.is) in
+    let said : Token = says (take (end - c.loop-place.place) (drop c.loop-place.place text)) in
+    let after : c.next-state.result ≡ next c.loop-place.state said = c.next-state.ensures ∙ ap (next c.loop-place.state) c.read_line.ensures in
+    let rest : Told = tell (next c.loop-place.state said) (end + 1) (suc c.loop-place.lines) (lines_of (drop (end + 1) text)) in
     let cut = the-cut in
     let s = c.next-state.result in
     let left = lines_of (drop (end + 1) text) in (
@@ -151,10 +117,8 @@ loop-place-preserved c =
 
 pub returns-then-done : goal.returns-then-done
 returns-then-done c =
-    let text : List ℕ =
-    c.args.text.now in
-    let mark : Bookmark =
-    c.args.mark in
+    let text : List ℕ = c.args.text.now in
+    let mark : Bookmark = c.args.mark in
     let whole : next_told text mark ≡ tell c.loop-place.state c.loop-place.place c.loop-place.lines (lines_of (drop c.loop-place.place text)) =
     told_in_order text mark c.state-state.result c.state-state.ensures c.if-mark.false c.if-text-mark.false
     ∙ c.loop-place.invariant.2 in
@@ -166,10 +130,8 @@ returns-then-done c =
 
 pub returns : goal.returns
 returns c =
-    let text : List ℕ =
-    c.args.text.now in
-    let mark : Bookmark =
-    c.args.mark in
+    let text : List ℕ = c.args.text.now in
+    let mark : Bookmark = c.args.mark in
     let whole : next_told text mark ≡ tell c.loop-place.state c.loop-place.place c.loop-place.lines (lines_of (drop c.loop-place.place text)) =
     told_in_order text mark c.state-state.result c.state-state.ensures c.if-mark.false c.if-text-mark.false
     ∙ c.loop-place.invariant.2 in

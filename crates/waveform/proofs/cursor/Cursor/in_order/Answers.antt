@@ -10,15 +10,13 @@ use Rattle.waveform.proofs.cursor.Cursor.in_order.Goals as goal
 pub returns-then-not-within : goal.returns-then-not-within
 unfolding ordered
 returns-then-not-within c =
-    let inside : leb c.args.self.clock last_instant ≡ c.within.result =
-    sym (c.within.ensures ∙ ap within c.at.ensures) in
+    let inside : leb c.args.self.clock last_instant ≡ c.within.result = sym (c.within.ensures ∙ ap within c.at.ensures) in
     fails _ _ (inside ∙ c.if-not-within.true)
 
 pub returns-then-self : goal.returns-then-self
 unfolding ordered
 returns-then-self c =
-    let inside : leb c.args.self.clock last_instant ≡ c.within.result =
-    sym (c.within.ensures ∙ ap within c.at.ensures) in
+    let inside : leb c.args.self.clock last_instant ≡ c.within.result = sym (c.within.ensures ∙ ap within c.at.ensures) in
     let s = c.args.self in
     passes _ _ _ (inside ∙ c.if-not-within.false)
     (last _ _ (c.in_order_after.ensures ∙ sym (ap (λ b. cond b (ordered_after s) (ordered_before s)) c.if-self.true)))
@@ -26,8 +24,7 @@ returns-then-self c =
 pub returns : goal.returns
 unfolding ordered
 returns c =
-    let inside : leb c.args.self.clock last_instant ≡ c.within.result =
-    sym (c.within.ensures ∙ ap within c.at.ensures) in
+    let inside : leb c.args.self.clock last_instant ≡ c.within.result = sym (c.within.ensures ∙ ap within c.at.ensures) in
     let s = c.args.self in
     passes _ _ _ (inside ∙ c.if-not-within.false)
     (last _ _ (c.in_order_before.ensures ∙ sym (ap (λ b. cond b (ordered_after s) (ordered_before s)) c.if-self.false)))
