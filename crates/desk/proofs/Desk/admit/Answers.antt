@@ -1,7 +1,6 @@
 -- `desk::Desk::admit` meets its contract: the state with the job is what is asked of room.
 use mathlib.Core.Path.{refl, sym, ap, subst, ◌∙◌}
 use mathlib.Core.Logic.{inl, inr}
-use borrow.Author.Rules.{rules}
 use Rattle.answers.specs.declared.Verdict.TheVariants.{Yes}
 use Rattle.room.specs.Walk.{FitsSays}
 use Rattle.ledger.specs.State.{InOrder}
@@ -24,14 +23,14 @@ pub returns-then-fits : goal.returns-then-fits
 unfolding Judged
 returns-then-fits c =
     let order : InOrder c.args.self.ledger =
-        in_order_lem _ c.requires.sized c.requires.order in
+    in_order_lem _ c.requires.sized c.requires.order in
     let says : FitsSays c.fits.result (with_job c.args.self c.args.job) =
-        let said = subst (λ l. FitsSays c.fits.result (book_of l)) c.moved-next.ensures c.fits.ensures in
-        let same = taken_book c.args.self c.args.job c.requires _ c.taken.ensures in
-        record {
-          yes = λ e. reordered_fits _ _ (reordered_sym _ _ same) (said.yes e);
-          no = λ e f. said.no e (reordered_fits _ _ same f);
-        } in
+    let said = subst (λ l. FitsSays c.fits.result (book_of l)) c.moved-next.ensures c.fits.ensures in
+    let same = taken_book c.args.self c.args.job c.requires _ c.taken.ensures in
+    record {
+      yes = λ e. reordered_fits _ _ (reordered_sym _ _ same) (said.yes e);
+      no = λ e f. said.no e (reordered_fits _ _ same f);
+    } in
     let new = c.moved-next.ensures ∙ taken_ledger c.args.self.ledger order c.args.job _ c.requires.free c.taken.ensures in
     inl (says.yes c.if-fits.true, λ i. record { desk = (c.with.ensures ∙ ap (with c.args.self) new) i; verdict = Yes })
 
@@ -39,10 +38,10 @@ pub returns : goal.returns
 unfolding Judged
 returns c =
     let says : FitsSays c.fits.result (with_job c.args.self c.args.job) =
-        let said = subst (λ l. FitsSays c.fits.result (book_of l)) c.moved-next.ensures c.fits.ensures in
-        let same = taken_book c.args.self c.args.job c.requires _ c.taken.ensures in
-        record {
-          yes = λ e. reordered_fits _ _ (reordered_sym _ _ same) (said.yes e);
-          no = λ e f. said.no e (reordered_fits _ _ same f);
-        } in
+    let said = subst (λ l. FitsSays c.fits.result (book_of l)) c.moved-next.ensures c.fits.ensures in
+    let same = taken_book c.args.self c.args.job c.requires _ c.taken.ensures in
+    record {
+      yes = λ e. reordered_fits _ _ (reordered_sym _ _ same) (said.yes e);
+      no = λ e f. said.no e (reordered_fits _ _ same f);
+    } in
     inr (says.no c.if-fits.false, refl)

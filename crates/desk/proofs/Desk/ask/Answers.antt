@@ -1,6 +1,5 @@
 -- `desk::Desk::ask` meets its contract: stopped by a line, or judged.
-use mathlib.Core.Path.{◌≡◌, refl, sym, ap, subst, ◌∙◌}
-use mathlib.Core.Bool.{true}
+use mathlib.Core.Path.{◌≡◌, sym, ap, subst, ◌∙◌}
 use borrow.Author.Rules.{rules}
 use borrow.Author.Tests.{not-true, not-false}
 use Rattle.lists.proofs.Places.{length_mapped}
@@ -26,13 +25,13 @@ pub admit-requires : goal.admit-requires
 unfolding request_of
 admit-requires c =
     let sized : Sized c.args.self.ledger =
-        record { feeds = search (rules, length_mapped); jobs = search (rules, length_mapped) } in
+    record { feeds = search (rules, length_mapped); jobs = search (rules, length_mapped) } in
     let yes : first_of (ask_lines c.args.self c.args.number (ticks c.args.work) (ticks c.args.lead)) ≡ Yes =
-        is_yes_lem _ (ap is_yes (sym (ap (λ r. r.verdict) c.request-request.ensures)) ∙ sym c.is_yes.ensures ∙ not-false _ c.if-not-is_yes.false-raw) in
+    is_yes_lem _ (ap is_yes (sym (ap (λ r. r.verdict) c.request-request.ensures)) ∙ sym c.is_yes.ensures ∙ not-false _ c.if-not-is_yes.false-raw) in
     let asked : c.request-request.result.job ≡ requested c.args.self c.args.number c.args.work c.args.lead =
-        let a = c.args in
-        ap (λ r. r.job) c.request-request.ensures
-        ∙ on_yes_lem (first_of (ask_lines a.self a.number (ticks a.work) (ticks a.lead))) (requested a.self a.number a.work a.lead) no_job (ap is_yes yes) in
+    let a = c.args in
+    ap (λ r. r.job) c.request-request.ensures
+    ∙ on_yes_lem (first_of (ask_lines a.self a.number (ticks a.work) (ticks a.lead))) (requested a.self a.number a.work a.lead) no_job (ap is_yes yes) in
     let a = c.args in
     subst (Admissible a.self) (sym asked) (admissible a.self a.number a.work a.lead sized yes)
 
@@ -40,10 +39,10 @@ pub returns : goal.returns
 unfolding request_of
 returns c =
     let yes : first_of (ask_lines c.args.self c.args.number (ticks c.args.work) (ticks c.args.lead)) ≡ Yes =
-        is_yes_lem _ (ap is_yes (sym (ap (λ r. r.verdict) c.request-request.ensures)) ∙ sym c.is_yes.ensures ∙ not-false _ c.if-not-is_yes.false-raw) in
+    is_yes_lem _ (ap is_yes (sym (ap (λ r. r.verdict) c.request-request.ensures)) ∙ sym c.is_yes.ensures ∙ not-false _ c.if-not-is_yes.false-raw) in
     let asked : c.request-request.result.job ≡ requested c.args.self c.args.number c.args.work c.args.lead =
-        let a = c.args in
-        ap (λ r. r.job) c.request-request.ensures
-        ∙ on_yes_lem (first_of (ask_lines a.self a.number (ticks a.work) (ticks a.lead))) (requested a.self a.number a.work a.lead) no_job (ap is_yes yes) in
+    let a = c.args in
+    ap (λ r. r.job) c.request-request.ensures
+    ∙ on_yes_lem (first_of (ask_lines a.self a.number (ticks a.work) (ticks a.lead))) (requested a.self a.number a.work a.lead) no_job (ap is_yes yes) in
     let a = c.args in
     judged_asked a.self a.number a.work a.lead _ yes (subst (λ j. Judged a.self j c.admit.result) asked c.admit.ensures)

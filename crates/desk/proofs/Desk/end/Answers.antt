@@ -26,22 +26,22 @@ returns-then-not-is_yes c =
 pub end-requires : goal.end-requires
 end-requires c =
     let sized : Sized c.args.self.ledger =
-        record { feeds = search (rules, length_mapped); jobs = search (rules, length_mapped) } in
+    record { feeds = search (rules, length_mapped); jobs = search (rules, length_mapped) } in
     let yes : is_yes (first_of (end_lines c.args.self c.args.number)) ≡ true =
-        ap is_yes (sym c.end_stops-verdict.ensures) ∙ sym c.is_yes.ensures ∙ not-false _ c.if-not-is_yes.false-raw in
+    ap is_yes (sym c.end_stops-verdict.ensures) ∙ sym c.is_yes.ensures ∙ not-false _ c.if-not-is_yes.false-raw in
     let order : InOrder c.args.self.ledger =
-        in_order_lem _ sized (not-false _ (yes_first _ _ (is_yes_lem _ yes)).0) in
+    in_order_lem _ sized (not-false _ (yes_first _ _ (is_yes_lem _ yes)).0) in
     (order.tidy_table, order.jobs.figures, order.jobs.once)
 
 pub returns : goal.returns
 unfolding end_of
 returns c =
     let yes : is_yes (first_of (end_lines c.args.self c.args.number)) ≡ true =
-        ap is_yes (sym c.end_stops-verdict.ensures) ∙ sym c.is_yes.ensures ∙ not-false _ c.if-not-is_yes.false-raw in
+    ap is_yes (sym c.end_stops-verdict.ensures) ∙ sym c.is_yes.ensures ∙ not-false _ c.if-not-is_yes.false-raw in
     let sized : Sized c.args.self.ledger =
-        record { feeds = search (rules, length_mapped); jobs = search (rules, length_mapped) } in
+    record { feeds = search (rules, length_mapped); jobs = search (rules, length_mapped) } in
     let order : InOrder c.args.self.ledger =
-        in_order_lem _ sized (not-false _ (yes_first _ _ (is_yes_lem _ yes)).0) in
+    in_order_lem _ sized (not-false _ (yes_first _ _ (is_yes_lem _ yes)).0) in
     let d = c.args.self in
     let n = c.args.number in
     let new = c.moved-next.ensures ∙ ended_ledger d.ledger order n _ c.end.ensures in

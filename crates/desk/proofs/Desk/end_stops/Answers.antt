@@ -16,21 +16,21 @@ returns-then-not-in_order c = sym (stops _ _ (ap not (sym c.in_order.ensures ∙
 pub has-requires : goal.has-requires
 has-requires c =
     let sized : Sized c.args.self.ledger =
-        record { feeds = search (rules, length_mapped); jobs = search (rules, length_mapped) } in
+    record { feeds = search (rules, length_mapped); jobs = search (rules, length_mapped) } in
     let fine : in_order c.args.self ≡ true =
-        sym c.in_order.ensures ∙ not-false _ c.if-not-in_order.false-raw in
+    sym c.in_order.ensures ∙ not-false _ c.if-not-in_order.false-raw in
     (in_order_lem _ sized fine).tidy_table.few
 
 pub returns-then-not-has : goal.returns-then-not-has
 returns-then-not-has c =
     let fine : in_order c.args.self ≡ true =
-        sym c.in_order.ensures ∙ not-false _ c.if-not-in_order.false-raw in
+    sym c.in_order.ensures ∙ not-false _ c.if-not-in_order.false-raw in
     let lacking = not-false _ (sym c.has.ensures ∙ not-true _ c.if-not-has.true-raw) in
     sym (goes_on_lem _ _ _ (ap not fine) (stops _ _ lacking))
 
 pub returns : goal.returns
 returns c =
     let fine : in_order c.args.self ≡ true =
-        sym c.in_order.ensures ∙ not-false _ c.if-not-in_order.false-raw in
+    sym c.in_order.ensures ∙ not-false _ c.if-not-in_order.false-raw in
     let there = not-true _ (sym c.has.ensures ∙ not-false _ c.if-not-has.false-raw) in
     sym (goes_on_lem _ _ _ (ap not fine) (goes_on_lem _ _ _ there no_line))

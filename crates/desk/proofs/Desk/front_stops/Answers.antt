@@ -3,7 +3,6 @@ use mathlib.Core.Path.{◌≡◌, sym, ap, ◌∙◌}
 use mathlib.Core.Bool.{false, not}
 use lib.Dec.{leb}
 use lib.ListN.{length}
-use borrow.Author.Rules.{rules}
 use borrow.Author.Tests.{not-true, not-false}
 use Rattle.ticks.specs.Ticks.{last_instant, most_charge}
 use Rattle.feeds.specs.Lines.{shape_lines}
@@ -20,31 +19,31 @@ returns-then-not-is_yes c =
 pub returns-then-not-within : goal.returns-then-not-within
 returns-then-not-within c =
     let yes : first_of (shape_lines (length c.args.list.now)) ≡ Yes =
-        is_yes_lem _ (ap is_yes (sym c.shape-shape.ensures) ∙ sym c.is_yes.ensures ∙ not-false _ c.if-not-is_yes.false-raw) in
+    is_yes_lem _ (ap is_yes (sym c.shape-shape.ensures) ∙ sym c.is_yes.ensures ∙ not-false _ c.if-not-is_yes.false-raw) in
     let reads : c.within.result ≡ leb c.args.start last_instant =
-        c.within.ensures ∙ ap (λ t. leb t.0 last_instant) c.at.ensures in
+    c.within.ensures ∙ ap (λ t. leb t.0 last_instant) c.at.ensures in
     sym (goes_past _ _ yes ∙ stops _ _ (ap not (sym reads ∙ not-true _ c.if-not-within.true-raw)))
 
 pub returns-then-not-suits_charge : goal.returns-then-not-suits_charge
 returns-then-not-suits_charge c =
     let yes : first_of (shape_lines (length c.args.list.now)) ≡ Yes =
-        is_yes_lem _ (ap is_yes (sym c.shape-shape.ensures) ∙ sym c.is_yes.ensures ∙ not-false _ c.if-not-is_yes.false-raw) in
+    is_yes_lem _ (ap is_yes (sym c.shape-shape.ensures) ∙ sym c.is_yes.ensures ∙ not-false _ c.if-not-is_yes.false-raw) in
     let low : c.suits_charge.result ≡ leb c.args.charge most_charge =
-        c.suits_charge.ensures ∙ ap (λ l. leb l.0 most_charge) c.of.ensures in
+    c.suits_charge.ensures ∙ ap (λ l. leb l.0 most_charge) c.of.ensures in
     let reads : c.within.result ≡ leb c.args.start last_instant =
-        c.within.ensures ∙ ap (λ t. leb t.0 last_instant) c.at.ensures in
+    c.within.ensures ∙ ap (λ t. leb t.0 last_instant) c.at.ensures in
     let read : not (leb c.args.start last_instant) ≡ false =
-        ap not (sym reads ∙ not-false _ c.if-not-within.false-raw) in
+    ap not (sym reads ∙ not-false _ c.if-not-within.false-raw) in
     sym (goes_past _ _ yes ∙ goes_on_lem _ _ _ read (stops _ _ (ap not (sym low ∙ not-true _ c.if-not-suits_charge.true-raw))))
 
 pub returns : goal.returns
 returns c =
     let yes : first_of (shape_lines (length c.args.list.now)) ≡ Yes =
-        is_yes_lem _ (ap is_yes (sym c.shape-shape.ensures) ∙ sym c.is_yes.ensures ∙ not-false _ c.if-not-is_yes.false-raw) in
+    is_yes_lem _ (ap is_yes (sym c.shape-shape.ensures) ∙ sym c.is_yes.ensures ∙ not-false _ c.if-not-is_yes.false-raw) in
     let low : c.suits_charge.result ≡ leb c.args.charge most_charge =
-        c.suits_charge.ensures ∙ ap (λ l. leb l.0 most_charge) c.of.ensures in
+    c.suits_charge.ensures ∙ ap (λ l. leb l.0 most_charge) c.of.ensures in
     let reads : c.within.result ≡ leb c.args.start last_instant =
-        c.within.ensures ∙ ap (λ t. leb t.0 last_instant) c.at.ensures in
+    c.within.ensures ∙ ap (λ t. leb t.0 last_instant) c.at.ensures in
     let read : not (leb c.args.start last_instant) ≡ false =
-        ap not (sym reads ∙ not-false _ c.if-not-within.false-raw) in
+    ap not (sym reads ∙ not-false _ c.if-not-within.false-raw) in
     sym (goes_past _ _ yes ∙ goes_on_lem _ _ _ read (goes_on_lem _ _ _ (ap not (sym low ∙ not-false _ c.if-not-suits_charge.false-raw)) no_line))

@@ -1,6 +1,5 @@
 -- `desk::Desk::in_order` meets its contract: what is kept beside the state of the box, then that state.
 use mathlib.Core.Path.{sym, ◌∙◌}
-use borrow.Author.Rules.{rules}
 use borrow.Author.Tests.{not-true, not-false}
 use Rattle.lists.proofs.Tests.{passes, fails, last}
 use Rattle.desk.specs.State.{in_order}

@@ -30,18 +30,18 @@ returns-then-not-is_yes c =
 pub list-count-requires : goal.list-count-requires
 list-count-requires c =
     let yes : is_yes (first_of (list_lines c.args.self (length c.args.buffer.now))) ≡ true =
-        ap is_yes (sym c.list_stops-verdict.ensures) ∙ sym c.is_yes.ensures ∙ not-false _ c.if-not-is_yes.false-raw in
+    ap is_yes (sym c.list_stops-verdict.ensures) ∙ sym c.is_yes.ensures ∙ not-false _ c.if-not-is_yes.false-raw in
     let sized : Sized c.args.self.ledger =
-        record { feeds = search (rules, length_mapped); jobs = search (rules, length_mapped) } in
+    record { feeds = search (rules, length_mapped); jobs = search (rules, length_mapped) } in
     let order : InOrder c.args.self.ledger =
-        in_order_lem _ sized (not-false _ (yes_first _ _ (is_yes_lem _ yes)).0) in
+    in_order_lem _ sized (not-false _ (yes_first _ _ (is_yes_lem _ yes)).0) in
     (order.tidy_table, ltb-false _ _ (yes_first _ _ (yes_first _ _ (is_yes_lem _ yes)).1).0)
 
 pub returns : goal.returns
 unfolding counted_of listed_of
 returns c =
     let yes : is_yes (first_of (list_lines c.args.self (length c.args.buffer.now))) ≡ true =
-        ap is_yes (sym c.list_stops-verdict.ensures) ∙ sym c.is_yes.ensures ∙ not-false _ c.if-not-is_yes.false-raw in
+    ap is_yes (sym c.list_stops-verdict.ensures) ∙ sym c.is_yes.ensures ∙ not-false _ c.if-not-is_yes.false-raw in
     let a = c.args in
     let d = a.self in
     let stop = c.list_stops-verdict.ensures in (

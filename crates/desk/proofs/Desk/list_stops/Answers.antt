@@ -18,19 +18,19 @@ returns-then-not-in_order c = sym (stops _ _ (ap not (sym c.in_order.ensures ∙
 pub overflow_mul-self : goal.overflow_mul-self
 overflow_mul-self c =
     let sized : Sized c.args.self.ledger =
-        record { feeds = search (rules, length_mapped); jobs = search (rules, length_mapped) } in
+    record { feeds = search (rules, length_mapped); jobs = search (rules, length_mapped) } in
     let fine : in_order c.args.self ≡ true =
-        sym c.in_order.ensures ∙ not-false _ c.if-not-in_order.false-raw in
+    sym c.in_order.ensures ∙ not-false _ c.if-not-in_order.false-raw in
     record { fits = omega (arith, (in_order_lem _ sized fine).tidy_table.few) }
 
 pub returns-then-size-self : goal.returns-then-size-self
 returns-then-size-self c =
     let fine : in_order c.args.self ≡ true =
-        sym c.in_order.ensures ∙ not-false _ c.if-not-in_order.false-raw in
+    sym c.in_order.ensures ∙ not-false _ c.if-not-in_order.false-raw in
     sym (goes_on_lem _ _ _ (ap not fine) (stops _ _ (lt-ltb _ _ c.if-size-self.true)))
 
 pub returns : goal.returns
 returns c =
     let fine : in_order c.args.self ≡ true =
-        sym c.in_order.ensures ∙ not-false _ c.if-not-in_order.false-raw in
+    sym c.in_order.ensures ∙ not-false _ c.if-not-in_order.false-raw in
     sym (goes_on_lem _ _ _ (ap not fine) (goes_on_lem _ _ _ (le-ltb _ _ c.if-size-self.false) no_line))

@@ -1,6 +1,5 @@
 -- `desk::Desk::open` meets its contract: lines 12, 8, 3 and 18, then the feeds' own.
 use mathlib.Core.Path.{◌≡◌, sym, ap, ◌∙◌}
-use borrow.Author.Rules.{rules}
 use borrow.Author.Tests.{not-true, not-false}
 use Rattle.ticks.specs.Ticks.{instant, ticks}
 use Rattle.feeds.specs.Lines.{feed_lines, feeds_in}
@@ -23,7 +22,7 @@ pub returns : goal.returns
 unfolding opened_of
 returns c =
     let yes : first_of (front_lines c.args.list.now c.args.start c.args.charge) ≡ Yes =
-        is_yes_lem _ (ap is_yes (sym c.front_stops-verdict.ensures) ∙ sym c.is_yes.ensures ∙ not-false _ c.if-not-is_yes.false-raw) in
+    is_yes_lem _ (ap is_yes (sym c.front_stops-verdict.ensures) ∙ sym c.is_yes.ensures ∙ not-false _ c.if-not-is_yes.false-raw) in
     let a = c.args in
     c.open_at.ensures
     ∙ answered_past (opened_desk (feeds_in a.list.now) (ticks a.charge) (instant a.start)) empty (front_lines a.list.now a.start a.charge) (feed_lines (ticks a.charge) (feeds_in a.list.now)) yes

@@ -3,8 +3,7 @@ use mathlib.Core.Path.{◌≡◌, sym, ap, subst, ◌∙◌}
 use mathlib.Core.Bool.{true}
 use lib.ListN.{length}
 use native.Mathlib.Omega.{arith}
-use borrow.Author.Rules.{rules}
-use borrow.Author.Tests.{not-true, not-false}
+use borrow.Author.Tests.{not-false}
 use Prim.Native.Nat.{◌≤◌}
 use Rattle.ticks.specs.Ticks.{last_instant, most_charge, instant, ticks}
 use Rattle.feeds.specs.Feeds.{in_use, Tidy}
@@ -15,7 +14,7 @@ use Rattle.feeds.proofs.Lent.{few_read, nothing_yet}
 use Rattle.feeds.specs.Pieces.{arrived}
 use Rattle.answers.specs.declared.Verdict.TheVariants.{Yes}
 use Rattle.answers.specs.Answers.{first_of, is_yes}
-use Rattle.answers.proofs.Answers.{is_yes_lem, on_yes_lem, on_no}
+use Rattle.answers.proofs.Answers.{is_yes_lem, on_yes_lem}
 use Rattle.ledger.specs.State.{laid}
 use Rattle.desk.specs.State.{empty, with}
 use Rattle.desk.specs.Opening.{opened_desk}
@@ -25,34 +24,33 @@ use Rattle.desk.proofs.Desk.open_at.Goals as goal
 pub taken-feeds-requires : goal.taken-feeds-requires
 taken-feeds-requires c =
     let front : (first_of (shape_lines (length c.args.list.now)) ≡ Yes) × (c.args.start ≤ last_instant) × (c.args.charge ≤ most_charge) =
-        front_passes c.args.list.now c.args.start c.args.charge c.requires in
+    front_passes c.args.list.now c.args.start c.args.charge c.requires in
     front.0
 
 pub sound-verdict-requires : goal.sound-verdict-requires
 sound-verdict-requires c =
     let front : (first_of (shape_lines (length c.args.list.now)) ≡ Yes) × (c.args.start ≤ last_instant) × (c.args.charge ≤ most_charge) =
-        front_passes c.args.list.now c.args.start c.args.charge c.requires in
+    front_passes c.args.list.now c.args.start c.args.charge c.requires in
     let tidy : Tidy c.taken-feeds.result =
-        let xs = c.args.list.now in
-        subst Tidy (sym c.taken-feeds.ensures) (tidy_of (feeds_in xs) (few_read xs front.0)) in
+    let xs = c.args.list.now in
+    subst Tidy (sym c.taken-feeds.ensures) (tidy_of (feeds_in xs) (few_read xs front.0)) in
     (tidy.few, omega (arith, ap (λ l. l.0) c.of-charge.ensures, front.2))
 
 pub arrive-requires : goal.arrive-requires
 arrive-requires c =
     let front : (first_of (shape_lines (length c.args.list.now)) ≡ Yes) × (c.args.start ≤ last_instant) × (c.args.charge ≤ most_charge) =
-        front_passes c.args.list.now c.args.start c.args.charge c.requires in
+    front_passes c.args.list.now c.args.start c.args.charge c.requires in
     let fed : in_use c.taken-feeds.result ≡ feeds_in c.args.list.now =
-        ap in_use c.taken-feeds.ensures ∙ in_use_of (feeds_in c.args.list.now) in
+    ap in_use c.taken-feeds.ensures ∙ in_use_of (feeds_in c.args.list.now) in
     let tidy : Tidy c.taken-feeds.result =
-        let xs = c.args.list.now in
-        subst Tidy (sym c.taken-feeds.ensures) (tidy_of (feeds_in xs) (few_read xs front.0)) in
+    let xs = c.args.list.now in
+    subst Tidy (sym c.taken-feeds.ensures) (tidy_of (feeds_in xs) (few_read xs front.0)) in
     let says : c.sound-verdict.result ≡ first_of (feed_lines (ticks c.args.charge) (feeds_in c.args.list.now)) =
-        c.sound-verdict.ensures ∙ (λ i. first_of (feed_lines (c.of-charge.ensures i) (fed i))) in
+    c.sound-verdict.ensures ∙ (λ i. first_of (feed_lines (c.of-charge.ensures i) (fed i))) in
     let yes : is_yes (first_of (feed_lines (ticks c.args.charge) (feeds_in c.args.list.now))) ≡ true =
-        ap is_yes (sym says) ∙ sym c.is_yes.ensures ∙ not-false _ c.if-not-is_yes.false-raw in
+    ap is_yes (sym says) ∙ sym c.is_yes.ensures ∙ not-false _ c.if-not-is_yes.false-raw in
     let passing : Passing (ticks c.args.charge) (feeds_in c.args.list.now) =
-        yes_passing (ticks c.args.charge) (feeds_in c.args.list.now) (few_read c.args.list.now front.0) (is_yes_lem _ yes) in
-    (
+    yes_passing (ticks c.args.charge) (feeds_in c.args.list.now) (few_read c.args.list.now front.0) (is_yes_lem _ yes) in (
       tidy,
       subst (Rattle.lists.specs.Lists.Each Rattle.feeds.specs.Feeds.FeedIn) (sym fed) passing.within,
       omega (arith, ap (λ l. l.0) c.of-charge.ensures, front.2),
@@ -62,11 +60,11 @@ arrive-requires c =
 pub returns : goal.returns
 returns c =
     let fed : in_use c.taken-feeds.result ≡ feeds_in c.args.list.now =
-        ap in_use c.taken-feeds.ensures ∙ in_use_of (feeds_in c.args.list.now) in
+    ap in_use c.taken-feeds.ensures ∙ in_use_of (feeds_in c.args.list.now) in
     let says : c.sound-verdict.result ≡ first_of (feed_lines (ticks c.args.charge) (feeds_in c.args.list.now)) =
-        c.sound-verdict.ensures ∙ (λ i. first_of (feed_lines (c.of-charge.ensures i) (fed i))) in
+    c.sound-verdict.ensures ∙ (λ i. first_of (feed_lines (c.of-charge.ensures i) (fed i))) in
     let yes : is_yes (first_of (feed_lines (ticks c.args.charge) (feeds_in c.args.list.now))) ≡ true =
-        ap is_yes (sym says) ∙ sym c.is_yes.ensures ∙ not-false _ c.if-not-is_yes.false-raw in
+    ap is_yes (sym says) ∙ sym c.is_yes.ensures ∙ not-false _ c.if-not-is_yes.false-raw in
     let a = c.args in
     let fs = feeds_in a.list.now in
     let come = c.arrive.ensures ∙ (λ i. Rattle.feeds.specs.Feeds.feeds_of (mathlib.Core.List.map (arrived (c.of-charge.ensures i) (c.at-clock.ensures i)) (fed i))) in

@@ -2,7 +2,6 @@
 use mathlib.Core.Path.{◌≡◌, sym, ap, ◌∙◌}
 use mathlib.Core.Bool.{not}
 use mathlib.Core.List.{List, ◌∷◌}
-use borrow.Author.Rules.{rules}
 use borrow.Author.Tests.{not-true, not-false}
 use Rattle.ticks.specs.Ticks.{instant, ticks}
 use Rattle.feeds.specs.Lines.{feed_lines, feeds_in}
@@ -28,13 +27,13 @@ pub returns-then-not-is_share : goal.returns-then-not-is_share
 unfolding opened_shared_of
 returns-then-not-is_share c =
     let yes : first_of (front_lines c.args.list.now c.args.start c.args.charge) ≡ Yes =
-        is_yes_lem _ (ap is_yes (sym c.front_stops-verdict.ensures) ∙ sym c.is_yes.ensures ∙ not-false _ c.if-not-is_yes.false-raw) in
+    is_yes_lem _ (ap is_yes (sym c.front_stops-verdict.ensures) ∙ sym c.is_yes.ensures ∙ not-false _ c.if-not-is_yes.false-raw) in
     let feeds-own : List Line =
-        feed_lines (ticks c.args.charge) (feeds_in c.args.list.now) in
+    feed_lines (ticks c.args.charge) (feeds_in c.args.list.now) in
     let laid_out : Desk =
-        opened_desk (feeds_in c.args.list.now) (ticks c.args.charge) (instant c.args.start) in
+    opened_desk (feeds_in c.args.list.now) (ticks c.args.charge) (instant c.args.start) in
     let shared : c.is_share.result ≡ is_share (share c.args.p c.args.q) =
-        c.is_share.ensures ∙ ap is_share c.of-share.ensures in
+    c.is_share.ensures ∙ ap is_share c.of-share.ensures in
     let given = share c.args.p c.args.q in
     let new = sharing given laid_out in
     (λ i. record { desk = c.none-then-not-is_share.ensures i; verdict = No NoShare })
@@ -45,21 +44,21 @@ pub returns-then-not-is_yes-2 : goal.returns-then-not-is_yes-2
 unfolding opened_shared_of
 returns-then-not-is_yes-2 c =
     let feeds-own : List Line =
-        feed_lines (ticks c.args.charge) (feeds_in c.args.list.now) in
+    feed_lines (ticks c.args.charge) (feeds_in c.args.list.now) in
     let laid_out : Desk =
-        opened_desk (feeds_in c.args.list.now) (ticks c.args.charge) (instant c.args.start) in
+    opened_desk (feeds_in c.args.list.now) (ticks c.args.charge) (instant c.args.start) in
     let yes : first_of (front_lines c.args.list.now c.args.start c.args.charge) ≡ Yes =
-        is_yes_lem _ (ap is_yes (sym c.front_stops-verdict.ensures) ∙ sym c.is_yes.ensures ∙ not-false _ c.if-not-is_yes.false-raw) in
+    is_yes_lem _ (ap is_yes (sym c.front_stops-verdict.ensures) ∙ sym c.is_yes.ensures ∙ not-false _ c.if-not-is_yes.false-raw) in
     let shared : c.is_share.result ≡ is_share (share c.args.p c.args.q) =
-        c.is_share.ensures ∙ ap is_share c.of-share.ensures in
+    c.is_share.ensures ∙ ap is_share c.of-share.ensures in
     let past : ◌≡◌ {A = _} (Rattle.desk.specs.Answers.answered feeds-own (sharing (share c.args.p c.args.q) laid_out) empty)
     (opened_shared_of c.args.list.now c.args.start c.args.charge c.args.p c.args.q) =
-        let given = share c.args.p c.args.q in
-        let new = sharing given laid_out in
-        answered_on new empty (share_line given) feeds-own (ap not (sym shared ∙ not-false _ c.if-not-is_share.false-raw))
-        ∙ answered_past new empty (front_lines c.args.list.now c.args.start c.args.charge) (share_line given ∷ feeds-own) yes in
+    let given = share c.args.p c.args.q in
+    let new = sharing given laid_out in
+    answered_on new empty (share_line given) feeds-own (ap not (sym shared ∙ not-false _ c.if-not-is_share.false-raw))
+    ∙ answered_past new empty (front_lines c.args.list.now c.args.start c.args.charge) (share_line given ∷ feeds-own) yes in
     let says : c.open_at-opened.result.verdict ≡ first_of feeds-own =
-        ap (λ a. a.verdict) c.open_at-opened.ensures in
+    ap (λ a. a.verdict) c.open_at-opened.ensures in
     let given = share c.args.p c.args.q in
     c.open_at-opened.ensures
     ∙ refused_alike feeds-own laid_out (sharing given laid_out) empty (ap is_yes (sym says) ∙ sym c.is_yes-2.ensures ∙ not-true _ c.if-not-is_yes-2.true-raw)
@@ -69,21 +68,21 @@ pub returns : goal.returns
 unfolding opened_shared_of
 returns c =
     let feeds-own : List Line =
-        feed_lines (ticks c.args.charge) (feeds_in c.args.list.now) in
+    feed_lines (ticks c.args.charge) (feeds_in c.args.list.now) in
     let laid_out : Desk =
-        opened_desk (feeds_in c.args.list.now) (ticks c.args.charge) (instant c.args.start) in
+    opened_desk (feeds_in c.args.list.now) (ticks c.args.charge) (instant c.args.start) in
     let yes : first_of (front_lines c.args.list.now c.args.start c.args.charge) ≡ Yes =
-        is_yes_lem _ (ap is_yes (sym c.front_stops-verdict.ensures) ∙ sym c.is_yes.ensures ∙ not-false _ c.if-not-is_yes.false-raw) in
+    is_yes_lem _ (ap is_yes (sym c.front_stops-verdict.ensures) ∙ sym c.is_yes.ensures ∙ not-false _ c.if-not-is_yes.false-raw) in
     let shared : c.is_share.result ≡ is_share (share c.args.p c.args.q) =
-        c.is_share.ensures ∙ ap is_share c.of-share.ensures in
+    c.is_share.ensures ∙ ap is_share c.of-share.ensures in
     let past : ◌≡◌ {A = _} (Rattle.desk.specs.Answers.answered feeds-own (sharing (share c.args.p c.args.q) laid_out) empty)
     (opened_shared_of c.args.list.now c.args.start c.args.charge c.args.p c.args.q) =
-        let given = share c.args.p c.args.q in
-        let new = sharing given laid_out in
-        answered_on new empty (share_line given) feeds-own (ap not (sym shared ∙ not-false _ c.if-not-is_share.false-raw))
-        ∙ answered_past new empty (front_lines c.args.list.now c.args.start c.args.charge) (share_line given ∷ feeds-own) yes in
+    let given = share c.args.p c.args.q in
+    let new = sharing given laid_out in
+    answered_on new empty (share_line given) feeds-own (ap not (sym shared ∙ not-false _ c.if-not-is_share.false-raw))
+    ∙ answered_past new empty (front_lines c.args.list.now c.args.start c.args.charge) (share_line given ∷ feeds-own) yes in
     let says : c.open_at-opened.result.verdict ≡ first_of feeds-own =
-        ap (λ a. a.verdict) c.open_at-opened.ensures in
+    ap (λ a. a.verdict) c.open_at-opened.ensures in
     let given = share c.args.p c.args.q in
     let desk = c.sharing.ensures ∙ (λ i. sharing (c.of-share.ensures i) (c.open_at-opened.ensures i).desk) in
     (λ i. record { desk = desk i; verdict = says i })

@@ -1,6 +1,5 @@
 -- `desk::Desk::place_stops` meets its contract: line 4, then line 5.
-use mathlib.Core.Path.{sym, ap, ◌∙◌}
-use borrow.Author.Rules.{rules}
+use mathlib.Core.Path.{sym, ◌∙◌}
 use borrow.Author.Tests.{le-leb, lt-leb}
 use Rattle.answers.proofs.Answers.{stops, goes_on_lem, no_line}
 use Rattle.desk.proofs.Desk.place_stops.Goals as goal

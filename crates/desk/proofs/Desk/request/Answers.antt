@@ -1,12 +1,8 @@
 -- `desk::Desk::request` meets its contract: line 13, then the others.
-use mathlib.Core.Path.{◌≡◌, refl, sym, ap, ◌∙◌}
-use mathlib.Core.Bool.{true, not}
-use native.Mathlib.Omega.{arith}
-use borrow.Author.Rules.{rules}
-use borrow.Author.Tests.{not-true, not-false}
+use mathlib.Core.Path.{refl, sym, ap, ◌∙◌}
+use mathlib.Core.Bool.{not}
+use borrow.Author.Tests.{not-true}
 use Rattle.answers.proofs.Answers.{stops}
-use Rattle.desk.specs.State.{in_order}
-use Rattle.desk.specs.Asking.{request_of}
 use Rattle.desk.proofs.Asking.{refused_request}
 use Rattle.desk.proofs.Desk.request.Goals as goal
 

@@ -31,11 +31,11 @@ returns-then-not-is_yes c =
 pub rest-requires : goal.rest-requires
 rest-requires c =
     let yes : is_yes (first_of (rest_lines c.args.self c.args.position)) ≡ true =
-        ap is_yes (sym c.rest_stops-verdict.ensures) ∙ sym c.is_yes.ensures ∙ not-false _ c.if-not-is_yes.false-raw in
+    ap is_yes (sym c.rest_stops-verdict.ensures) ∙ sym c.is_yes.ensures ∙ not-false _ c.if-not-is_yes.false-raw in
     let sized : Sized c.args.self.ledger =
-        record { feeds = search (rules, length_mapped); jobs = search (rules, length_mapped) } in
+    record { feeds = search (rules, length_mapped); jobs = search (rules, length_mapped) } in
     let order : InOrder c.args.self.ledger =
-        in_order_lem _ sized (not-false _ (yes_first _ _ (is_yes_lem _ yes)).0) in
+    in_order_lem _ sized (not-false _ (yes_first _ _ (is_yes_lem _ yes)).0) in
     let d = c.args.self in
     let p = c.args.position in
     let t = yes_first _ _ (is_yes_lem _ yes) in
@@ -46,11 +46,11 @@ pub returns : goal.returns
 unfolding rest_of
 returns c =
     let yes : is_yes (first_of (rest_lines c.args.self c.args.position)) ≡ true =
-        ap is_yes (sym c.rest_stops-verdict.ensures) ∙ sym c.is_yes.ensures ∙ not-false _ c.if-not-is_yes.false-raw in
+    ap is_yes (sym c.rest_stops-verdict.ensures) ∙ sym c.is_yes.ensures ∙ not-false _ c.if-not-is_yes.false-raw in
     let sized : Sized c.args.self.ledger =
-        record { feeds = search (rules, length_mapped); jobs = search (rules, length_mapped) } in
+    record { feeds = search (rules, length_mapped); jobs = search (rules, length_mapped) } in
     let order : InOrder c.args.self.ledger =
-        in_order_lem _ sized (not-false _ (yes_first _ _ (is_yes_lem _ yes)).0) in
+    in_order_lem _ sized (not-false _ (yes_first _ _ (is_yes_lem _ yes)).0) in
     let d = c.args.self in
     let n = c.args.position in
     let new = c.moved-next.ensures ∙ rested_ledger d.ledger order n _ c.rest.ensures in

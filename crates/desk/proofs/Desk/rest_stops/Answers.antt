@@ -19,23 +19,23 @@ returns-then-not-in_order c = sym (stops _ _ (ap not (sym c.in_order.ensures ∙
 pub owes_at-requires : goal.owes_at-requires
 owes_at-requires c =
     let sized : Sized c.args.self.ledger =
-        record { feeds = search (rules, length_mapped); jobs = search (rules, length_mapped) } in
+    record { feeds = search (rules, length_mapped); jobs = search (rules, length_mapped) } in
     let fine : in_order c.args.self ≡ true =
-        sym c.in_order.ensures ∙ not-false _ c.if-not-in_order.false-raw in
+    sym c.in_order.ensures ∙ not-false _ c.if-not-in_order.false-raw in
     (in_order_lem _ sized fine).tidy_feeds.few
 
 pub returns-then-is_none : goal.returns-then-is_none
 returns-then-is_none c =
     let fine : in_order c.args.self ≡ true =
-        sym c.in_order.ensures ∙ not-false _ c.if-not-in_order.false-raw in
+    sym c.in_order.ensures ∙ not-false _ c.if-not-in_order.false-raw in
     let owes : c.is_none.result ≡ eqb (owes_at c.args.position 1 (in_use c.args.self.ledger.feeds)) 0 =
-        c.is_none.ensures ∙ ap (λ l. eqb l.0 0) c.owes_at.ensures in
+    c.is_none.ensures ∙ ap (λ l. eqb l.0 0) c.owes_at.ensures in
     sym (goes_on_lem _ _ _ (ap not fine) (stops _ _ (sym owes ∙ c.if-is_none.true)))
 
 pub returns : goal.returns
 returns c =
     let fine : in_order c.args.self ≡ true =
-        sym c.in_order.ensures ∙ not-false _ c.if-not-in_order.false-raw in
+    sym c.in_order.ensures ∙ not-false _ c.if-not-in_order.false-raw in
     let owes : c.is_none.result ≡ eqb (owes_at c.args.position 1 (in_use c.args.self.ledger.feeds)) 0 =
-        c.is_none.ensures ∙ ap (λ l. eqb l.0 0) c.owes_at.ensures in
+    c.is_none.ensures ∙ ap (λ l. eqb l.0 0) c.owes_at.ensures in
     sym (goes_on_lem _ _ _ (ap not fine) (goes_on_lem _ _ _ (sym owes ∙ c.if-is_none.false) no_line))

@@ -27,27 +27,27 @@ pub returns-then-not-is_after : goal.returns-then-not-is_after
 unfolding runner_of
 returns-then-not-is_after c =
     let fine : in_order c.args.self ≡ true =
-        sym c.in_order.ensures ∙ not-false _ c.if-not-in_order.false-raw in
+    sym c.in_order.ensures ∙ not-false _ c.if-not-in_order.false-raw in
     let goes : c.is_after.result ≡ ltb c.args.self.ledger.clock.0 last_instant =
-        c.is_after.ensures ∙ ap (λ t. ltb c.args.self.ledger.clock.0 t.0) c.last-last.ensures in
+    c.is_after.ensures ∙ ap (λ t. ltb c.args.self.ledger.clock.0 t.0) c.last-last.ensures in
     let d = c.args.self in
     ap (λ v. on_yes v (who_is (runner (book d)).who) Idle) (sym (goes_on_lem _ _ _ (ap not fine) (stops _ _ (ap not (sym goes ∙ not-true _ c.if-not-is_after.true-raw)))))
 
 pub foremost-piece-requires : goal.foremost-piece-requires
 foremost-piece-requires c =
     let sized : Sized c.args.self.ledger =
-        record { feeds = search (rules, length_mapped); jobs = search (rules, length_mapped) } in
+    record { feeds = search (rules, length_mapped); jobs = search (rules, length_mapped) } in
     let fine : in_order c.args.self ≡ true =
-        sym c.in_order.ensures ∙ not-false _ c.if-not-in_order.false-raw in
+    sym c.in_order.ensures ∙ not-false _ c.if-not-in_order.false-raw in
     in_order_lem _ sized fine
 
 pub returns : goal.returns
 unfolding runner_of
 returns c =
     let fine : in_order c.args.self ≡ true =
-        sym c.in_order.ensures ∙ not-false _ c.if-not-in_order.false-raw in
+    sym c.in_order.ensures ∙ not-false _ c.if-not-in_order.false-raw in
     let goes : c.is_after.result ≡ ltb c.args.self.ledger.clock.0 last_instant =
-        c.is_after.ensures ∙ ap (λ t. ltb c.args.self.ledger.clock.0 t.0) c.last-last.ensures in
+    c.is_after.ensures ∙ ap (λ t. ltb c.args.self.ledger.clock.0 t.0) c.last-last.ensures in
     let d = c.args.self in
     ap (λ p. p.who) c.foremost-piece.ensures
     ∙ ap (λ v. on_yes v (who_is (runner (book d)).who) Idle) (sym (goes_on_lem _ _ _ (ap not fine) (goes_on_lem _ _ _ (ap not (sym goes ∙ not-false _ c.if-not-is_after.false-raw)) no_line)))

@@ -16,15 +16,15 @@ returns-then-not-in_order c = step_stopped c.args.self (sym c.in_order.ensures �
 pub step-stepped-requires : goal.step-stepped-requires
 step-stepped-requires c =
     let sized : Sized c.args.self.ledger =
-        record { feeds = search (rules, length_mapped); jobs = search (rules, length_mapped) } in
+    record { feeds = search (rules, length_mapped); jobs = search (rules, length_mapped) } in
     let fine : in_order c.args.self ≡ true =
-        sym c.in_order.ensures ∙ not-false _ c.if-not-in_order.false-raw in
+    sym c.in_order.ensures ∙ not-false _ c.if-not-in_order.false-raw in
     in_order_lem _ sized fine
 
 pub returns : goal.returns
 returns c =
     let fine : in_order c.args.self ≡ true =
-        sym c.in_order.ensures ∙ not-false _ c.if-not-in_order.false-raw in
+    sym c.in_order.ensures ∙ not-false _ c.if-not-in_order.false-raw in
     let d = c.args.self in
     let stepped = c.step-stepped.result in
     let below = c.step-stepped.ensures in

@@ -8,7 +8,7 @@ use borrow.Author.Rules.{rules}
 use Rattle.lists.proofs.Places.{length_mapped}
 use Rattle.lists.proofs.Tests.{ltb_elim}
 use Rattle.ticks.specs.declared.Instant.{Instant}
-use Rattle.ticks.specs.Ticks.{last_instant, ticks, plus, later_of}
+use Rattle.ticks.specs.Ticks.{last_instant, ticks, later_of}
 use Rattle.edf.specs.Share as edf
 use Rattle.edf.specs.Share.{at_share, deadline_at}
 use Rattle.shares.specs.Shares.{most_share}
@@ -34,37 +34,37 @@ later_first t u = ltb_elim (λ b. t.0 ≤ (cond b u t).0) t.0 u.0 (λ l. omega (
 pub and-requires : goal.and-requires
 and-requires c =
     let sized : Sized c.args.self.ledger =
-        record { feeds = search (rules, length_mapped); jobs = search (rules, length_mapped) } in
+    record { feeds = search (rules, length_mapped); jobs = search (rules, length_mapped) } in
     let order : InOrder c.args.self.ledger =
-        in_order_lem _ sized c.requires.0 in
+    in_order_lem _ sized c.requires.0 in
     omega (arith, order.charge, c.requires.2)
 
 pub time_for-time-requires : goal.time_for-time-requires
 time_for-time-requires c =
     let sized : Sized c.args.self.ledger =
-        record { feeds = search (rules, length_mapped); jobs = search (rules, length_mapped) } in
+    record { feeds = search (rules, length_mapped); jobs = search (rules, length_mapped) } in
     let order : InOrder c.args.self.ledger =
-        in_order_lem _ sized c.requires.0 in
+    in_order_lem _ sized c.requires.0 in
     let work : c.and.result.0 ≡ c.args.work.0 + c.args.self.ledger.charge.0 =
-        ap (λ l. l.0) c.and.ensures in
+    ap (λ l. l.0) c.and.ensures in
     (c.requires.1, omega (arith, work, order.charge, c.requires.2))
 
 pub plus-requires : goal.plus-requires
 plus-requires c =
     let sized : Sized c.args.self.ledger =
-        record { feeds = search (rules, length_mapped); jobs = search (rules, length_mapped) } in
+    record { feeds = search (rules, length_mapped); jobs = search (rules, length_mapped) } in
     let order : InOrder c.args.self.ledger =
-        in_order_lem _ sized c.requires.0 in
+    in_order_lem _ sized c.requires.0 in
     let beside : Beside c.args.self =
-        in_order_beside _ c.requires.0 in
+    in_order_beside _ c.requires.0 in
     let work : c.and.result.0 ≡ c.args.work.0 + c.args.self.ledger.charge.0 =
-        ap (λ l. l.0) c.and.ensures in
+    ap (λ l. l.0) c.and.ensures in
     let time : c.time_for-time.result.0 ≡ at_share c.args.self.share.p c.args.self.share.q (c.args.work.0 + c.args.self.ledger.charge.0) =
-        let s = c.args.self.share in
-        ap (λ l. l.0) c.time_for-time.ensures ∙ ap (at_share s.p s.q) work in
+    let s = c.args.self.share in
+    ap (λ l. l.0) c.time_for-time.ensures ∙ ap (at_share s.p s.q) work in
     let short : c.time_for-time.result.0 ≤ 2 ^ 33 * most_share + most_share =
-        let few : c.args.work.0 + c.args.self.ledger.charge.0 ≤ 2 ^ 33 = omega (arith, order.charge, c.requires.2) in
-        omega (arith, time, time_bounded c.args.self.share (c.args.work.0 + c.args.self.ledger.charge.0) (2 ^ 33) c.requires.1 few) in
+    let few : c.args.work.0 + c.args.self.ledger.charge.0 ≤ 2 ^ 33 = omega (arith, order.charge, c.requires.2) in
+    omega (arith, time, time_bounded c.args.self.share (c.args.work.0 + c.args.self.ledger.charge.0) (2 ^ 33) c.requires.1 few) in
     let s = c.args.self in
     omega (arith, short, ap (λ t. t.0) c.later_of.ensures, later_within s.ledger.clock s.previous order.clock beside.previous)
 
@@ -72,23 +72,23 @@ pub returns : goal.returns
 unfolding deadline_at at_share
 returns c =
     let sized : Sized c.args.self.ledger =
-        record { feeds = search (rules, length_mapped); jobs = search (rules, length_mapped) } in
+    record { feeds = search (rules, length_mapped); jobs = search (rules, length_mapped) } in
     let order : InOrder c.args.self.ledger =
-        in_order_lem _ sized c.requires.0 in
+    in_order_lem _ sized c.requires.0 in
     let beside : Beside c.args.self =
-        in_order_beside _ c.requires.0 in
+    in_order_beside _ c.requires.0 in
     let work : c.and.result.0 ≡ c.args.work.0 + c.args.self.ledger.charge.0 =
-        ap (λ l. l.0) c.and.ensures in
+    ap (λ l. l.0) c.and.ensures in
     let time : c.time_for-time.result.0 ≡ at_share c.args.self.share.p c.args.self.share.q (c.args.work.0 + c.args.self.ledger.charge.0) =
-        let s = c.args.self.share in
-        ap (λ l. l.0) c.time_for-time.ensures ∙ ap (at_share s.p s.q) work in
+    let s = c.args.self.share in
+    ap (λ l. l.0) c.time_for-time.ensures ∙ ap (at_share s.p s.q) work in
     let short : c.time_for-time.result.0 ≤ 2 ^ 33 * most_share + most_share =
-        let few : c.args.work.0 + c.args.self.ledger.charge.0 ≤ 2 ^ 33 = omega (arith, order.charge, c.requires.2) in
-        omega (arith, time, time_bounded c.args.self.share (c.args.work.0 + c.args.self.ledger.charge.0) (2 ^ 33) c.requires.1 few) in
+    let few : c.args.work.0 + c.args.self.ledger.charge.0 ≤ 2 ^ 33 = omega (arith, order.charge, c.requires.2) in
+    omega (arith, time, time_bounded c.args.self.share (c.args.work.0 + c.args.self.ledger.charge.0) (2 ^ 33) c.requires.1 few) in
     let due : c.plus.result.0 ≡ deadline_at c.args.self.share.p c.args.self.share.q c.args.self.previous.0 c.args.self.ledger.clock.0 (c.args.work.0 + c.args.self.ledger.charge.0) =
-        let s = c.args.self in
-        ap (λ t. t.0) c.plus.ensures
-        ∙ (λ i. (ap (λ t. t.0) c.later_of.ensures ∙ later_read s.ledger.clock s.previous) i + time i) in
+    let s = c.args.self in
+    ap (λ t. t.0) c.plus.ensures
+    ∙ (λ i. (ap (λ t. t.0) c.later_of.ensures ∙ later_read s.ledger.clock s.previous) i + time i) in
     let s = c.args.self in (
       c.ticks_since.ensures ∙ ap (λ n. ticks (n - s.ledger.clock.0)) due,
       omega (arith, ap (λ l. l.0) c.ticks_since.ensures, ap (λ t. t.0) c.plus.ensures, ap (λ t. t.0) c.later_of.ensures, short, later_within s.ledger.clock s.previous order.clock beside.previous),
