@@ -2,6 +2,8 @@
 // It must not know more than where the script comes from.
 #![tactic(auto)]
 
-fn main() {
-    telling::rehearse(libc::STDIN_FILENO);
+use std::io;
+
+fn main(rt: HostRuntime) -> io::Result<()> {
+    telling::rehearse(&mut rt.stdin(), &mut rt.stdout())
 }

@@ -2,30 +2,48 @@
 // It must not know more than where the scripts come from.
 #![tactic(auto)]
 
-use libc::STDOUT_FILENO;
+use std::env::FillError;
+use std::fs::File;
+use std::io;
+use std::io::Write;
+use std::rt::{Env, Files};
+
+// The script of that name, where there is one.
+fn opened<R: Files>(rt: &R, path: &[u8]) -> Option<R::File> {
+    let Ok(name) = str::from_utf8(path) else {
+        return None;
+    };
+    File::open(rt, name).ok()
+}
 
 // One script's name on a line, and what the script answers.
-fn pair(path: &[u8]) {
-    io::write_all(STDOUT_FILENO, b"== ");
-    io::write_all(STDOUT_FILENO, path);
-    io::write_all(STDOUT_FILENO, b"\n");
-    let from = os::open_read(path);
-    if from < 0 {
-        io::write_all(STDOUT_FILENO, b"no such script\n");
-        return;
-    }
-    telling::rehearse(from);
-    libc::close(from);
+fn pair<R: Files, W: Write>(rt: &R, sink: &mut W, path: &[u8]) -> io::Result<()> {
+    sink.write_all(b"== ")?;
+    sink.write_all(path)?;
+    sink.write_all(b"\n")?;
+    let Some(mut from) = opened(rt, path) else {
+        return sink.write_all(b"no such script\n");
+    };
+    telling::rehearse(&mut from, sink)
 }
 
-fn pair_of(argument: usize) {
-    let mut path = io::buffer();
-    let n = os::arg(argument, &mut path);
-    pair(&path[..n]);
+// The pair of an argument, and whether there is that argument; one that is too long names no script.
+fn pair_of<R: Env + Files, W: Write>(rt: &R, sink: &mut W, argument: usize) -> io::Result<bool> {
+    let mut path = [0u8; 4096];
+    let n = match rt.arg(argument, &mut path) {
+        Ok(n) => n,
+        Err(FillError::TooLong) => 0,
+        Err(FillError::NotPresent) => return Ok(false),
+    };
+    pair(rt, sink, &path[..n])?;
+    Ok(true)
 }
 
-fn main() {
-    for argument in 1..os::arg_count() {
-        pair_of(argument);
+fn main(rt: HostRuntime) -> io::Result<()> {
+    for argument in 1..usize::MAX {
+        if !pair_of(&rt, &mut rt.stdout(), argument)? {
+            break;
+        }
     }
+    Ok(())
 }

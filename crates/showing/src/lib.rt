@@ -1,12 +1,14 @@
-// The showing of a waveform: a text is read whole from an open file, and what it tells of a run goes to standard output.
+// The showing of a waveform: a text is read whole from an input, and what it tells of a run is written to an output.
 // It must not know how a text is judged: it reads, calls the waveform and writes.
 #![tactic(auto)]
 
-ghost use Rattle.std.specs.Prelude.{◌≡◌, ◌+◌, ◌≤◌, length};
+ghost use Rattle.std.specs.Prelude.{◌≡◌, ◌+◌, ◌≤◌, length, IfOk};
 ghost use Rattle.showing.specs.Texts.{most_line, line_of};
 ghost use Rattle.showing.specs.Answers.{Kept, Added, Listed, RunTold, Answered};
 
-use libc::STDOUT_FILENO;
+use reading::read_full;
+use std::io;
+use std::io::{Read, Write};
 use waveform::Outcome;
 use waveform::stretches::{Bookmark, Stretch, Told};
 
@@ -25,29 +27,34 @@ pub enum Shown {
 pub const MOST: usize = 1048576;
 
 // The place for the next line: what waits is written first where there may be no room.
-fn place_in(out: &[u8], at: usize) -> usize
+fn place_in<W: Write>(sink: &mut W, out: &[u8], at: usize) -> io::Result<usize>
     requires { (at ≤ length out.now) × (most_line ≤ length out.now) }
-    ensures { (result + most_line ≤ length out.now) × Kept out.now at result }
+    ensures { IfOk result (λ to. (to + most_line ≤ length out.now) × Kept out.now at to) }
 {
     if put::MOST <= out.len() - at {
-        return at;
+        return Ok(at);
     }
-    io::write_all(STDOUT_FILENO, &out[..at]);
-    0
+    sink.write_all(&out[..at])?;
+    Ok(0)
 }
 
-fn tell(out: &mut [u8], at: usize, shown: Shown) -> usize
+fn tell<W: Write>(sink: &mut W, out: &mut [u8], at: usize, shown: Shown) -> io::Result<usize>
     requires { (at ≤ length out.old) × (most_line ≤ length out.old) }
-    ensures { (result ≤ length out.old) × Added out.old out.new at result (line_of shown) }
+    ensures { IfOk result (λ to. (to ≤ length out.old) × Added out.old out.new at to (line_of shown)) }
 {
-    let to = place_in(out, at);
-    put::line(out, to, shown)
+    let to = place_in(sink, out, at)?;
+    Ok(put::line(out, to, shown))
 }
 
 // A line for each stretch, one after another, until no more is told.
-fn tell_stretches(text: &[u8], out: &mut [u8], at: usize) -> usize
+fn tell_stretches<W: Write>(
+    text: &[u8],
+    sink: &mut W,
+    out: &mut [u8],
+    at: usize,
+) -> io::Result<usize>
     requires { (at ≤ length out.old) × (most_line ≤ length out.old) }
-    ensures { (result ≤ length out.old) × Listed text.now out.old out.new at result }
+    ensures { IfOk result (λ to. (to ≤ length out.old) × Listed text.now out.old out.new at to) }
 {
     let mut at = at;
     let mut mark = Bookmark {
@@ -61,37 +68,43 @@ fn tell_stretches(text: &[u8], out: &mut [u8], at: usize) -> usize
         let Told::Next(ran, on) = waveform::stretches::next(text, mark) else {
             break;
         };
-        at = tell(out, at, Shown::Ran(ran));
+        at = tell(sink, out, at, Shown::Ran(ran))?;
         mark = on;
     }
-    at
+    Ok(at)
 }
 
 // A run: its start, its stretches, its end.
-fn tell_run(text: &[u8], out: &mut [u8], start: u64, end: u64) -> usize
+fn tell_run<W: Write>(
+    text: &[u8],
+    sink: &mut W,
+    out: &mut [u8],
+    start: u64,
+    end: u64,
+) -> io::Result<usize>
     requires { most_line ≤ length out.old }
-    ensures { (result ≤ length out.old) × RunTold text.now out.new start end result }
+    ensures { IfOk result (λ at. (at ≤ length out.old) × RunTold text.now out.new start end at) }
 {
-    let a = tell(out, 0, Shown::Start(start));
-    let b = tell_stretches(text, out, a);
-    tell(out, b, Shown::End(end))
+    let a = tell(sink, out, 0, Shown::Start(start))?;
+    let b = tell_stretches(text, sink, out, a)?;
+    tell(sink, out, b, Shown::End(end))
 }
 
 // The whole answer to a text; its last bytes wait in the buffer.
-fn answer(text: &[u8], out: &mut [u8]) -> usize
+fn answer<W: Write>(text: &[u8], sink: &mut W, out: &mut [u8]) -> io::Result<usize>
     requires { most_line ≤ length out.old }
-    ensures { (result ≤ length out.old) × Answered text.now out.new result }
+    ensures { IfOk result (λ at. (at ≤ length out.old) × Answered text.now out.new at) }
 {
     match waveform::judge(text) {
-        Outcome::Wrong(line) => tell(out, 0, Shown::Wrong(line)),
-        Outcome::Well(start, end, _) => tell_run(text, out, start, end),
+        Outcome::Wrong(line) => tell(sink, out, 0, Shown::Wrong(line)),
+        Outcome::Well(start, end, _) => tell_run(text, sink, out, start, end),
     }
 }
 
-fn show_text(text: &[u8]) {
+fn show_text<W: Write>(text: &[u8], sink: &mut W) -> io::Result<()> {
     let mut out = [0u8; 4096];
-    let at = answer(text, &mut out);
-    io::write_all(STDOUT_FILENO, &out[..at]);
+    let at = answer(text, sink, &mut out)?;
+    sink.write_all(&out[..at])
 }
 
 // Zeros, for the longest text and a byte more; of what is then read into it, no proof asks more than the length.
@@ -101,13 +114,12 @@ fn room() -> [u8; MOST + 1]
     [0u8; MOST + 1]
 }
 
-// Shows the waveform that an open file holds; a text that is too long is only told so.
-pub fn show(from: i32) {
+// Shows the waveform that an input holds; a text that is too long is only told so.
+pub fn show<R: Read, W: Write>(from: &mut R, sink: &mut W) -> io::Result<()> {
     let mut text = room();
-    let n = io::read_full(from, &mut text);
+    let n = read_full(from, &mut text)?;
     if MOST < n {
-        io::write_all(STDOUT_FILENO, b"too long\n");
-        return;
+        return sink.write_all(b"too long\n");
     }
-    show_text(&text[..n]);
+    show_text(&text[..n], sink)
 }

@@ -1,14 +1,16 @@
-// The telling of a rehearsal: a script is read whole from an open file, and each answer goes to standard output.
+// The telling of a rehearsal: a script is read whole from an input, and each answer is written to an output.
 // It must not know the rules: it reads, calls the rehearsal and writes.
 #![tactic(auto)]
 
-ghost use Rattle.std.specs.Prelude.{◌+◌, ◌≤◌, ◌<◌, length};
+ghost use Rattle.std.specs.Prelude.{◌+◌, ◌≤◌, ◌<◌, length, IfOk};
 ghost use Rattle.sayings.specs.Texts.{most_text};
 ghost use Rattle.telling.specs.Going.{Filled, Ready, Onto};
 
-use libc::STDOUT_FILENO;
+use reading::read_full;
 use rehearsal::{Place, Session};
 use sayings::Said;
+use std::io;
+use std::io::{Read, Write};
 
 // A session under way: where it stands in the input, and how many bytes of the buffer wait to be written.
 #[derive(Clone, Copy)]
@@ -26,29 +28,29 @@ struct Running {
 }
 
 // The place for the next answer: what waits is written first where there may be no room.
-fn place_in(out: &[u8], at: usize) -> usize
+fn place_in<W: Write>(sink: &mut W, out: &[u8], at: usize) -> io::Result<usize>
     requires { (at ≤ length out.now) × (most_text ≤ length out.now) }
-    ensures { result + most_text ≤ length out.now }
+    ensures { IfOk result (λ to. to + most_text ≤ length out.now) }
 {
     if sayings::put::MOST <= out.len() - at {
-        return at;
+        return Ok(at);
     }
-    io::write_all(STDOUT_FILENO, &out[..at]);
-    0
+    sink.write_all(&out[..at])?;
+    Ok(0)
 }
 
-fn tell(out: &mut [u8], at: usize, said: Said) -> usize
+fn tell<W: Write>(sink: &mut W, out: &mut [u8], at: usize, said: Said) -> io::Result<usize>
     requires { (at ≤ length out.old) × (most_text ≤ length out.old) }
-    ensures { result ≤ length out.old }
+    ensures { IfOk result (λ to. to ≤ length out.old) }
 {
-    let to = place_in(out, at);
-    sayings::put::said(out, to, said)
+    let to = place_in(sink, out, at)?;
+    Ok(sayings::put::said(out, to, said))
 }
 
 // The ticks of a run, if one is under way.
-fn run(out: &mut [u8], running: Running) -> Running
+fn run<W: Write>(sink: &mut W, out: &mut [u8], running: Running) -> io::Result<Running>
     requires { Filled out.old running.session running.at }
-    ensures { Filled out.old result.session result.at }
+    ensures { IfOk result (λ ran. Filled out.old ran.session ran.at) }
 {
     let mut session = running.session;
     let mut at = running.at;
@@ -56,15 +58,15 @@ fn run(out: &mut [u8], running: Running) -> Running
         let reply = session.tick();
         let said = reply.said;
         session = reply.session;
-        at = tell(out, at, said);
+        at = tell(sink, out, at, said)?;
     }
-    Running { session, at }
+    Ok(Running { session, at })
 }
 
 // One line and what it answers.
-fn hear(input: &[u8], out: &mut [u8], going: Going) -> Going
+fn hear<W: Write>(input: &[u8], sink: &mut W, out: &mut [u8], going: Going) -> io::Result<Going>
     requires { Ready input.now out.old going }
-    ensures { Onto input.now out.old going result }
+    ensures { IfOk result (λ gone. Onto input.now out.old going gone) }
 {
     let at = going.at;
     let read = going.session.read(input, going.place);
@@ -72,18 +74,18 @@ fn hear(input: &[u8], out: &mut [u8], going: Going) -> Going
     let reply = read.reply;
     let session = reply.session;
     let said = reply.said;
-    let told = tell(out, at, said);
-    let ran = run(out, Running { session, at: told });
+    let told = tell(sink, out, at, said)?;
+    let ran = run(sink, out, Running { session, at: told })?;
     let after = ran.session;
-    Going {
+    Ok(Going {
         session: after,
         place,
         at: ran.at,
-    }
+    })
 }
 
 // Every line of a script, until the rehearsal is over.
-fn hear_all(input: &[u8]) {
+fn hear_all<W: Write>(input: &[u8], sink: &mut W) -> io::Result<()> {
     let mut out = [0u8; 4096];
     let mut going = Going {
         session: Session::begin(),
@@ -94,19 +96,18 @@ fn hear_all(input: &[u8]) {
         if going.session.over {
             break;
         }
-        going = hear(input, &mut out, going);
+        going = hear(input, sink, &mut out, going)?;
     }
     let at = going.at;
-    io::write_all(STDOUT_FILENO, &out[..at]);
+    sink.write_all(&out[..at])
 }
 
-// Rehearses the script that an open file holds; one that is too long is only told so.
-pub fn rehearse(from: i32) {
+// Rehearses the script that an input holds; one that is too long is only told so.
+pub fn rehearse<R: Read, W: Write>(from: &mut R, sink: &mut W) -> io::Result<()> {
     let mut input = [0u8; Place::MOST + 1];
-    let n = io::read_full(from, &mut input);
+    let n = read_full(from, &mut input)?;
     if Place::MOST < n {
-        io::write_all(STDOUT_FILENO, b"too long\n");
-        return;
+        return sink.write_all(b"too long\n");
     }
-    hear_all(&input[..n]);
+    hear_all(&input[..n], sink)
 }

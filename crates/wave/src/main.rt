@@ -2,6 +2,8 @@
 // It must not know more than where the script comes from.
 #![tactic(auto)]
 
-fn main() {
-    waving::wave(libc::STDIN_FILENO);
+use std::io;
+
+fn main(rt: HostRuntime) -> io::Result<()> {
+    waving::wave(&mut rt.stdin(), &mut rt.stdout())
 }

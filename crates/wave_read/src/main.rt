@@ -2,6 +2,8 @@
 // It must not know more than where the text comes from.
 #![tactic(auto)]
 
-fn main() {
-    showing::show(libc::STDIN_FILENO);
+use std::io;
+
+fn main(rt: HostRuntime) -> io::Result<()> {
+    showing::show(&mut rt.stdin(), &mut rt.stdout())
 }

@@ -1,12 +1,14 @@
-// The waving of a script: it is read whole from an open file, and the waveform of its ticks goes to standard output.
+// The waving of a script: it is read whole from an input, and the waveform of its ticks is written to an output.
 // It must not know the rules, nor how a line is written: it reads, calls the rehearsal and the runs, and writes.
 #![tactic(auto)]
 
-ghost use Rattle.std.specs.Prelude.{◌≤◌, ◌<◌};
+ghost use Rattle.std.specs.Prelude.{◌≤◌, ◌<◌, IfOk};
 ghost use Rattle.waving.specs.Going.{Ready, Onto};
 
-use libc::STDOUT_FILENO;
+use reading::read_full;
 use rehearsal::{Place, Session};
+use std::io;
+use std::io::{Read, Write};
 use waveform::cursor::Cursor;
 
 // A script under way: the session, where it stands in the input, and the cursor of its run, empty before the desk is open.
@@ -52,44 +54,44 @@ fn left_after(left: u32, steps: u32) -> u32
 }
 
 // The ticks that a line left to run, if any.
-fn run(out: &mut [u8], running: Running) -> Running {
+fn run<W: Write>(sink: &mut W, out: &mut [u8], running: Running) -> io::Result<Running> {
     let mut session = running.session;
     let mut cursor = running.cursor;
     while 0 < session.left {
         let went = runs::go_on(session.desk, cursor, session.left, out);
         let bytes = went.bytes;
-        io::write_all(STDOUT_FILENO, &out[..bytes]);
+        sink.write_all(&out[..bytes])?;
         let left = left_after(session.left, went.steps);
         let desk = went.desk;
         session.desk = desk;
         session.left = left;
         cursor = went.cursor;
     }
-    Running { session, cursor }
+    Ok(Running { session, cursor })
 }
 
 // One line, and its ticks.
-fn hear(input: &[u8], out: &mut [u8], going: Going) -> Going
+fn hear<W: Write>(input: &[u8], sink: &mut W, out: &mut [u8], going: Going) -> io::Result<Going>
     requires { Ready input.now going }
-    ensures { Onto input.now going result }
+    ensures { IfOk result (λ gone. Onto input.now going gone) }
 {
     let read = going.session.read(input, going.place);
     let place = read.place;
     let reply = read.reply;
     let session = reply.session;
     let cursor = begun(session, going.cursor);
-    let ran = run(out, Running { session, cursor });
+    let ran = run(sink, out, Running { session, cursor })?;
     let after = ran.session;
     let behind = ran.cursor;
-    Going {
+    Ok(Going {
         session: after,
         place,
         cursor: behind,
-    }
+    })
 }
 
 // Closes a run: what is still to be written of it, part by part.
-fn close(out: &mut [u8], cursor: Cursor) {
+fn close<W: Write>(sink: &mut W, out: &mut [u8], cursor: Cursor) -> io::Result<()> {
     let mut cursor = cursor;
     while !cursor.is_none() {
         let closed = waveform::parts::close(cursor, out);
@@ -97,13 +99,14 @@ fn close(out: &mut [u8], cursor: Cursor) {
         if bytes == 0 {
             break;
         }
-        io::write_all(STDOUT_FILENO, &out[..bytes]);
+        sink.write_all(&out[..bytes])?;
         cursor = closed.cursor;
     }
+    Ok(())
 }
 
 // Every line of a script, until the rehearsal is over; there its run is closed.
-fn hear_all(input: &[u8]) {
+fn hear_all<W: Write>(input: &[u8], sink: &mut W) -> io::Result<()> {
     let mut out = [0u8; 4096];
     let mut going = Going {
         session: Session::begin(),
@@ -114,18 +117,17 @@ fn hear_all(input: &[u8]) {
         if going.session.over {
             break;
         }
-        going = hear(input, &mut out, going);
+        going = hear(input, sink, &mut out, going)?;
     }
-    close(&mut out, going.cursor);
+    close(sink, &mut out, going.cursor)
 }
 
-// Writes the waveform of the script that an open file holds; one that is too long is only told so.
-pub fn wave(from: i32) {
+// Writes the waveform of the script that an input holds; one that is too long is only told so.
+pub fn wave<R: Read, W: Write>(from: &mut R, sink: &mut W) -> io::Result<()> {
     let mut input = [0u8; Place::MOST + 1];
-    let n = io::read_full(from, &mut input);
+    let n = read_full(from, &mut input)?;
     if Place::MOST < n {
-        io::write_all(STDOUT_FILENO, b"too long\n");
-        return;
+        return sink.write_all(b"too long\n");
     }
-    hear_all(&input[..n]);
+    hear_all(&input[..n], sink)
 }
