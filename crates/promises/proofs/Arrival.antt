@@ -26,7 +26,7 @@ use Rattle.desk.proofs.Good.{step_book, end_book, rest_book, ask_book, ask_refus
 use Rattle.questions.specs.Meshes.{AskedMesh}
 use Rattle.promises.specs.Runs.{Call, Calls, ask, ask_mesh, ask_undated, step, end, rest, look, allows, Made, opened, charge_of, share_of}
 use Rattle.promises.specs.Undated.{TakesUndated}
-use Rattle.promises.specs.Arrival.{Arrived, job_asked, ruled, lead_of, book_after, previous_after, follows, in_order_of_arrival, AnswersAs, AnswersAsInOrderOfArrival}
+use Rattle.promises.specs.Arrival.{Arrived, job_asked, ruled, lead_of, book_after, previous_after, in_order_of_arrival, AnswersAs, AnswersAsInOrderOfArrival}
 use Rattle.promises.proofs.System as system
 use Rattle.promises.proofs.Openings.{opening_good, either_opening}
 use Rattle.promises.proofs.Stays.{call_keeps_charge, call_keeps_share, undated_remembered, others_keep}

@@ -46,7 +46,7 @@ use Rattle.desk.proofs.Asking.{admissible}
 use Rattle.desk.proofs.Reachable.{admissible_askable, passing_opens}
 use Rattle.desk.proofs.Undated.{undated_due, undated_shared}
 use Rattle.desk.proofs.Good.{step_book, end_book, rest_book, undated_book}
-use Rattle.promises.specs.Runs.{Call, Calls, ask, ask_mesh, ask_undated, step, end, rest, look, told, allows, Made, share, Opening, answer_to, opened}
+use Rattle.promises.specs.Runs.{Call, Calls, ask, ask_mesh, ask_undated, step, end, rest, look, told, allows, Made, Opening, answer_to, opened}
 use Rattle.promises.specs.Undated.{given, TakesUndated, TakesDated, DueAtTheEnd, SharesAtMostAll, NotSix, NoUndatedAskGetsSix}
 use Rattle.promises.proofs.System.{desks}
 use Rattle.promises.proofs.Total.{refused_hands_back}

@@ -53,7 +53,6 @@ use Rattle.desk.specs.Opening.{share_line}
 use Rattle.desk.specs.Asking.{number_line, request_lines, place_lines, ask_lines, requested, with_job, Judged, Asked}
 use Rattle.desk.specs.Undated.{undated_lines, undated_deadline, undated_lead, AskedUndated}
 use Rattle.questions.specs.Meshes.{AskedMesh}
-use Rattle.promises.specs.Runs.{ask, end, rest}
 use Rattle.promises.specs.Arrival.{Arrived, job_asked, ruled, lead_of, asked_lines, Answers, MeshAnswers, UndatedAnswers, owes_in, stepped, ended_by, rested_by, listed_by, AnswersAs}
 
 -- what a feed's current piece owes, in the state and in its book

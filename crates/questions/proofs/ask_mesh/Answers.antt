@@ -1,6 +1,5 @@
 -- `questions::ask_mesh` meets its contract: an ordinary ask, or stopped by line 13 or a line of the mesh.
 use mathlib.Core.Path.{◌≡◌, sym, ap, ◌∙◌}
-use borrow.Author.Rules.{rules}
 use borrow.Author.Tests.{not-true, not-false}
 use Rattle.mesh.specs.Meshes.{mesh_lines}
 use Rattle.mesh.proofs.Meshes.{mesh_verdict, mesh_work}
@@ -12,7 +11,7 @@ use Rattle.questions.proofs.ask_mesh.Goals as goal
 pub returns-then-is_yes : goal.returns-then-is_yes
 returns-then-is_yes c =
     let says : c.read-mesh.result.verdict ≡ first_of (mesh_lines c.args.head.now c.args.size) =
-        ap (λ m. m.verdict) c.read-mesh.ensures ∙ mesh_verdict _ _ in
+    ap (λ m. m.verdict) c.read-mesh.ensures ∙ mesh_verdict _ _ in
     let lines = is_yes_lem _ (ap is_yes (sym says) ∙ sym c.is_yes.ensures ∙ c.if-is_yes.true) in
     mesh_asked _ _ _ _ _ _ _ lines (ap (λ m. m.work) c.read-mesh.ensures ∙ mesh_work _ _ lines) c.ask.ensures
 
@@ -22,5 +21,5 @@ returns-then-not-in_order c = mesh_out_of_order _ _ _ _ _ (sym c.in_order.ensure
 pub returns : goal.returns
 returns c =
     let says : c.read-mesh.result.verdict ≡ first_of (mesh_lines c.args.head.now c.args.size) =
-        ap (λ m. m.verdict) c.read-mesh.ensures ∙ mesh_verdict _ _ in
+    ap (λ m. m.verdict) c.read-mesh.ensures ∙ mesh_verdict _ _ in
     mesh_refused _ _ _ _ _ _ (sym c.in_order.ensures ∙ not-false _ c.if-not-in_order.false-raw) says (sym c.is_yes.ensures ∙ c.if-is_yes.false)

@@ -5,7 +5,6 @@ use native.Mathlib.Omega.{arith}
 use mir.Syntax.{w64}
 use mir.Val.{SFits}
 use mir.ValLaws.{to_z-of_z}
-use borrow.Author.Rules.{rules}
 use borrow.Author.Tests.{ltb-true, ltb-false}
 use Rattle.edf.specs.Book.{Book}
 use Rattle.edf.proofs.Reordered.{reordered_sym, reordered_owed, reordered_telling}
@@ -29,35 +28,35 @@ tightest-debt-requires c = subst InOrder (sym c.moved-all.ensures) (taken_in_ord
 pub reason_at-reason-requires : goal.reason_at-reason-requires
 reason_at-reason-requires c =
     let order : InOrder c.args.desk.ledger =
-        in_order_lem _ c.requires.sized c.requires.order in
+    in_order_lem _ c.requires.sized c.requires.order in
     let all : Book =
-        with_job c.args.desk c.args.job in
+    with_job c.args.desk c.args.job in
     let tells : Tells c.args.desk.ledger.clock all c.tightest-debt.result =
-        let r = c.tightest-debt.result in
-        let same = taken_book c.args.desk c.args.job c.requires _ c.taken.ensures in
-        let said = subst (λ l. Tells l.clock (book_of l) r) c.moved-all.ensures c.tightest-debt.ensures in
-        record {
-          telling = reordered_telling _ _ (reordered_sym _ _ same) r.at.0 said.telling;
-          reach = said.reach;
-          owed = said.owed ∙ sym (reordered_owed _ _ same r.at.0);
-        } in
+    let r = c.tightest-debt.result in
+    let same = taken_book c.args.desk c.args.job c.requires _ c.taken.ensures in
+    let said = subst (λ l. Tells l.clock (book_of l) r) c.moved-all.ensures c.tightest-debt.ensures in
+    record {
+      telling = reordered_telling _ _ (reordered_sym _ _ same) r.at.0 said.telling;
+      reach = said.reach;
+      owed = said.owed ∙ sym (reordered_owed _ _ same r.at.0);
+    } in
     let after : c.args.desk.ledger.clock.0 < c.tightest-debt.result.at.0 =
-        told_after c.args.desk c.args.job c.tightest-debt.result.at.0 tells.telling in
+    told_after c.args.desk c.args.job c.tightest-debt.result.at.0 tells.telling in
     (order, omega (arith, c.requires.job.owed.1, order.charge), tells.reach, omega (arith, after))
 
 pub returns-then-is_longer : goal.returns-then-is_longer
 returns-then-is_longer c =
     let all : Book =
-        with_job c.args.desk c.args.job in
+    with_job c.args.desk c.args.job in
     let tells : Tells c.args.desk.ledger.clock all c.tightest-debt.result =
-        let r = c.tightest-debt.result in
-        let same = taken_book c.args.desk c.args.job c.requires _ c.taken.ensures in
-        let said = subst (λ l. Tells l.clock (book_of l) r) c.moved-all.ensures c.tightest-debt.ensures in
-        record {
-          telling = reordered_telling _ _ (reordered_sym _ _ same) r.at.0 said.telling;
-          reach = said.reach;
-          owed = said.owed ∙ sym (reordered_owed _ _ same r.at.0);
-        } in
+    let r = c.tightest-debt.result in
+    let same = taken_book c.args.desk c.args.job c.requires _ c.taken.ensures in
+    let said = subst (λ l. Tells l.clock (book_of l) r) c.moved-all.ensures c.tightest-debt.ensures in
+    record {
+      telling = reordered_telling _ _ (reordered_sym _ _ same) r.at.0 said.telling;
+      reach = said.reach;
+      owed = said.owed ∙ sym (reordered_owed _ _ same r.at.0);
+    } in
     let a = c.args in
     let r = c.tightest-debt.result in
     let short = ltb-true c.ticks_since.result.0 r.owed.0 (sym c.is_longer.ensures ∙ c.if-is_longer.true) in
@@ -67,18 +66,18 @@ returns-then-is_longer c =
 pub returns : goal.returns
 returns c =
     let all : Book =
-        with_job c.args.desk c.args.job in
+    with_job c.args.desk c.args.job in
     let tells : Tells c.args.desk.ledger.clock all c.tightest-debt.result =
-        let r = c.tightest-debt.result in
-        let same = taken_book c.args.desk c.args.job c.requires _ c.taken.ensures in
-        let said = subst (λ l. Tells l.clock (book_of l) r) c.moved-all.ensures c.tightest-debt.ensures in
-        record {
-          telling = reordered_telling _ _ (reordered_sym _ _ same) r.at.0 said.telling;
-          reach = said.reach;
-          owed = said.owed ∙ sym (reordered_owed _ _ same r.at.0);
-        } in
+    let r = c.tightest-debt.result in
+    let same = taken_book c.args.desk c.args.job c.requires _ c.taken.ensures in
+    let said = subst (λ l. Tells l.clock (book_of l) r) c.moved-all.ensures c.tightest-debt.ensures in
+    record {
+      telling = reordered_telling _ _ (reordered_sym _ _ same) r.at.0 said.telling;
+      reach = said.reach;
+      owed = said.owed ∙ sym (reordered_owed _ _ same r.at.0);
+    } in
     let narrow : SFits w64 c.reason_at-reason.result.margin =
-        record { sfits = c.reason_at-reason.type_inv.1.1.1.1.1.1.0.1 } in
+    record { sfits = c.reason_at-reason.type_inv.1.1.1.1.1.1.0.1 } in
     let a = c.args in
     let r = c.tightest-debt.result in
     let time = ltb-false c.ticks_since.result.0 r.owed.0 (sym c.is_longer.ensures ∙ c.if-is_longer.false) in

@@ -21,9 +21,9 @@ pub returns-then-not-is_yes : goal.returns-then-not-is_yes
 unfolding request_of
 returns-then-not-is_yes c =
     let lines : Verdict =
-        first_of (ask_lines c.args.desk c.args.number (ticks c.args.work) (ticks c.args.lead)) in
+    first_of (ask_lines c.args.desk c.args.number (ticks c.args.work) (ticks c.args.lead)) in
     let says : c.request-request.result.verdict ≡ lines =
-        ap (λ r. r.verdict) c.request-request.ensures in
+    ap (λ r. r.verdict) c.request-request.ensures in
     let a = c.args in
     subst (λ x. Explained a.desk a.number a.work a.lead (record { verdict = c.request-request.result.verdict; reason = x }))
     (sym c.none.ensures)
@@ -33,17 +33,17 @@ pub explain-requires : goal.explain-requires
 unfolding request_of
 explain-requires c =
     let sized : Sized c.args.desk.ledger =
-        record { feeds = search (rules, length_mapped); jobs = search (rules, length_mapped) } in
+    record { feeds = search (rules, length_mapped); jobs = search (rules, length_mapped) } in
     let lines : Verdict =
-        first_of (ask_lines c.args.desk c.args.number (ticks c.args.work) (ticks c.args.lead)) in
+    first_of (ask_lines c.args.desk c.args.number (ticks c.args.work) (ticks c.args.lead)) in
     let says : c.request-request.result.verdict ≡ lines =
-        ap (λ r. r.verdict) c.request-request.ensures in
+    ap (λ r. r.verdict) c.request-request.ensures in
     let none-stops : lines ≡ Yes =
-        is_yes_lem _ (ap is_yes (sym says) ∙ sym c.is_yes.ensures ∙ not-false _ c.if-not-is_yes.false-raw) in
+    is_yes_lem _ (ap is_yes (sym says) ∙ sym c.is_yes.ensures ∙ not-false _ c.if-not-is_yes.false-raw) in
     let wanted : Job =
-        requested c.args.desk c.args.number c.args.work c.args.lead in
+    requested c.args.desk c.args.number c.args.work c.args.lead in
     let asked : c.request-request.result.job ≡ wanted =
-        ap (λ r. r.job) c.request-request.ensures ∙ on_yes_lem lines wanted no_job (ap is_yes none-stops) in
+    ap (λ r. r.job) c.request-request.ensures ∙ on_yes_lem lines wanted no_job (ap is_yes none-stops) in
     let a = c.args in
     subst (Admissible a.desk) (sym asked) (admissible a.desk a.number a.work a.lead sized none-stops)
 
@@ -51,14 +51,14 @@ pub returns : goal.returns
 unfolding request_of
 returns c =
     let lines : Verdict =
-        first_of (ask_lines c.args.desk c.args.number (ticks c.args.work) (ticks c.args.lead)) in
+    first_of (ask_lines c.args.desk c.args.number (ticks c.args.work) (ticks c.args.lead)) in
     let says : c.request-request.result.verdict ≡ lines =
-        ap (λ r. r.verdict) c.request-request.ensures in
+    ap (λ r. r.verdict) c.request-request.ensures in
     let none-stops : lines ≡ Yes =
-        is_yes_lem _ (ap is_yes (sym says) ∙ sym c.is_yes.ensures ∙ not-false _ c.if-not-is_yes.false-raw) in
+    is_yes_lem _ (ap is_yes (sym says) ∙ sym c.is_yes.ensures ∙ not-false _ c.if-not-is_yes.false-raw) in
     let wanted : Job =
-        requested c.args.desk c.args.number c.args.work c.args.lead in
+    requested c.args.desk c.args.number c.args.work c.args.lead in
     let asked : c.request-request.result.job ≡ wanted =
-        ap (λ r. r.job) c.request-request.ensures ∙ on_yes_lem lines wanted no_job (ap is_yes none-stops) in
+    ap (λ r. r.job) c.request-request.ensures ∙ on_yes_lem lines wanted no_job (ap is_yes none-stops) in
     let a = c.args in
     told_explained a.desk a.number a.work a.lead _ none-stops (subst (λ j. Told a.desk j c.explain.result) asked c.explain.ensures)

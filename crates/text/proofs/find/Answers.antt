@@ -1,10 +1,8 @@
 -- `text::find` meets its contract: what is found is what is found in the bytes still to look at.
 -- Assumes nothing.
-use mathlib.Core.Path.{◌≡◌, refl, sym, ap, ◌∙◌}
-use Prim.Native.Nat.{◌-◌}
+use mathlib.Core.Path.{refl, sym, ap, ◌∙◌}
 use native.Mathlib.Numerals.{add-one}
-use borrow.Author.Rules.{rules}
-use lib.ListN.{length, get_or, drop, drop_of_length-le}
+use lib.ListN.{get_or, drop_of_length-le}
 use Rattle.text.specs.Fields.{found_in}
 use Rattle.text.proofs.Fields.{next_byte, found_here, found_past, found_empty}
 use Rattle.text.proofs.find.Goals as goal

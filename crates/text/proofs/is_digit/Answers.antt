@@ -1,5 +1,4 @@
 -- `text::is_digit` meets its contract.
-use native.Mathlib.Omega.{arith}
 use borrow.Author.Tests.{lt-leb, le-leb}
 use Rattle.text.specs.Numbers.{is_digit}
 use Rattle.text.proofs.is_digit.Goals as goal

@@ -3,7 +3,6 @@ use native.Mathlib.Omega.{arith}
 use lib.ListN.{length}
 use borrow.Author.Tests.{lt-leb, le-leb, eq-eqb, ne_eqb}
 use Rattle.text.specs.Numbers.{is_shaped}
-use borrow.Author.Rules.{rules}
 use Rattle.text.proofs.is_shaped.Goals as goal
 
 pub returns-then-s-lt1 : goal.returns-then-s-lt1

@@ -1,8 +1,8 @@
 -- `text::put::number_in` meets its contract: the digits of the part before the last, and then the last.
-use Rattle.std.proofs.Common.{◌≡◌, ◌+◌, ◌≤◌, ◌<◌, ℕ, [], ◌∷◌, sym, ap, ◌∙◌, subst, arith}
+use Rattle.std.proofs.Common.{◌+◌, [], ◌∷◌, sym, ap, ◌∙◌, subst, arith}
 use native.Mathlib.Nat.{mod-eq_of_lt}
 use Rattle.text.specs.Put.{Put}
-use Rattle.text.specs.Numbers.{nought, Base}
+use Rattle.text.specs.Numbers.{nought}
 use Rattle.text.proofs.Numbers.{front_less, digits_one, digits_more, digits_some, digits_longer}
 use Rattle.text.proofs.Texts.{put_after, put_length}
 use Rattle.text.proofs.put.+number_in.Goals as goal

@@ -1,10 +1,8 @@
 -- `text::put::width_in` meets its contract: the digits counted, and those of the part that is left.
-use mathlib.Core.Path.{◌≡◌, ap}
-use Prim.Native.Nat.{◌+◌}
+use mathlib.Core.Path.{ap}
 use native.Mathlib.Omega.{arith}
 use lib.ListN.{length}
-use Rattle.text.specs.Numbers.{numeral}
-use Rattle.text.proofs.Numbers.{front_less, digits_one, digits_some, digits_longer, digits_few}
+use Rattle.text.proofs.Numbers.{digits_one, digits_some, digits_longer, digits_few}
 use Rattle.text.proofs.put.width_in.Goals as goal
 
 pub overflow_add-width : goal.overflow_add-width

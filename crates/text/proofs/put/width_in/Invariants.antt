@@ -1,10 +1,8 @@
 -- `text::put::width_in` meets its contract: the digits counted, and those of the part that is left.
-use mathlib.Core.Path.{◌≡◌, ap}
+use mathlib.Core.Path.{◌≡◌}
 use Prim.Native.Nat.{◌+◌}
-use native.Mathlib.Omega.{arith}
 use lib.ListN.{length}
 use Rattle.text.specs.Numbers.{numeral}
-use Rattle.text.proofs.Numbers.{front_less, digits_one, digits_some, digits_longer, digits_few}
 use Rattle.text.proofs.put.width_in.Given as goal
 
 abbrev pub invariant-loop-rest : goal.invariant-loop-rest

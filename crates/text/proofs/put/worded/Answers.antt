@@ -2,7 +2,6 @@
 use native.Mathlib.Omega.{arith}
 use Rattle.text.proofs.Numbers.{digits_wide}
 use Rattle.text.proofs.Texts.{put_length, put_after}
-use borrow.Author.Rules.{rules}
 use Rattle.text.proofs.put.worded.Goals as goal
 
 pub number-b-requires : goal.number-b-requires
