@@ -12,4 +12,4 @@ slice_bounds-write_all-end-in-loop-cursor g c =
     simp length-take (omega (arith, fits))
 
 pub loop-cursor-smaller : goal.loop-cursor-smaller
-loop-cursor-smaller g c = fewer_left _ _ c.close-closed.ensures.0 (omega (arith, c.if-bytes-eq0.false))
+loop-cursor-smaller g c = fewer_left _ _ c.close-closed.ensures.0 (omega arith)
