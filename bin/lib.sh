@@ -1,6 +1,7 @@
 # shellcheck shell=bash
-# Sourced by the scripts beside it, each of which runs a program on a file or on standard input. Where the program is missing,
-# or was not made of the sources as they are, it is proved and built first; only what the program says goes to standard output.
+# Sourced by .ci/run and by the scripts beside it, each of which runs a program on a file or on standard input. Where the program
+# is missing, or was not made of the sources as they are, it is proved and built first; only what the program says goes to
+# standard output.
 here=$(cd "$(dirname "${BASH_SOURCE[0]}")/.." && pwd)
 script=bin/$(basename "$0")
 
@@ -14,6 +15,7 @@ sources() {
 }
 # what the stamp says: what the program was made of, and which program that was
 made_of() { echo "$1 $(sha256sum <"$2")"; } # SOURCES PROGRAM
+note() { mkdir -p "$here/target" && made_of "$2" "$here/crates/$1/out/$1" >"$here/target/$1.stamp"; } # NAME SOURCES
 
 build() { # NAME
     local program=$here/crates/$1/out/$1 stamp=$here/target/$1.stamp log=$here/target/$1.log now
@@ -32,7 +34,7 @@ build() { # NAME
         echo "$script: the build failed" >&2
         exit 1
     fi
-    made_of "$now" "$program" >"$stamp"
+    note "$1" "$now"
 }
 
 run() { # NAME [FILE]
