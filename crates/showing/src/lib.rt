@@ -2,7 +2,7 @@
 // It must not know how a text is judged: it reads, calls the waveform and writes.
 #![tactic(auto)]
 
-ghost use Rattle.std.specs.Prelude.{◌≡◌, ◌+◌, ◌≤◌, length, IfOk};
+ghost use Rattle.std.specs.Prelude.{◌≡◌, ◌+◌, ◌≤◌, length, IfOk, OnErr};
 ghost use Rattle.showing.specs.Texts.{most_line, line_of};
 ghost use Rattle.showing.specs.Answers.{Kept, Added, Listed, RunTold, Answered};
 
@@ -40,7 +40,8 @@ fn place_in<W: Write>(sink: &mut W, out: &[u8], at: usize) -> io::Result<usize>
 
 fn tell<W: Write>(sink: &mut W, out: &mut [u8], at: usize, shown: Shown) -> io::Result<usize>
     requires { (at ≤ length out.old) × (most_line ≤ length out.old) }
-    ensures { IfOk result (λ to. (to ≤ length out.old) × Added out.old out.new at to (line_of shown)) }
+    ensures told { IfOk result (λ to. (to ≤ length out.old) × Added out.old out.new at to (line_of shown)) }
+    ensures failed { OnErr result (length out.new ≡ length out.old) }
 {
     let to = place_in(sink, out, at)?;
     Ok(put::line(out, to, shown))
@@ -54,7 +55,8 @@ fn tell_stretches<W: Write>(
     at: usize,
 ) -> io::Result<usize>
     requires { (at ≤ length out.old) × (most_line ≤ length out.old) }
-    ensures { IfOk result (λ to. (to ≤ length out.old) × Listed text.now out.old out.new at to) }
+    ensures told { IfOk result (λ to. (to ≤ length out.old) × Listed text.now out.old out.new at to) }
+    ensures failed { OnErr result (length out.new ≡ length out.old) }
 {
     let mut at = at;
     let mut mark = Bookmark {
@@ -83,7 +85,8 @@ fn tell_run<W: Write>(
     end: u64,
 ) -> io::Result<usize>
     requires { most_line ≤ length out.old }
-    ensures { IfOk result (λ at. (at ≤ length out.old) × RunTold text.now out.new start end at) }
+    ensures told { IfOk result (λ at. (at ≤ length out.old) × RunTold text.now out.new start end at) }
+    ensures failed { OnErr result (length out.new ≡ length out.old) }
 {
     let a = tell(sink, out, 0, Shown::Start(start))?;
     let b = tell_stretches(text, sink, out, a)?;
@@ -93,7 +96,8 @@ fn tell_run<W: Write>(
 // The whole answer to a text; its last bytes wait in the buffer.
 fn answer<W: Write>(text: &[u8], sink: &mut W, out: &mut [u8]) -> io::Result<usize>
     requires { most_line ≤ length out.old }
-    ensures { IfOk result (λ at. (at ≤ length out.old) × Answered text.now out.new at) }
+    ensures told { IfOk result (λ at. (at ≤ length out.old) × Answered text.now out.new at) }
+    ensures failed { OnErr result (length out.new ≡ length out.old) }
 {
     match waveform::judge(text) {
         Outcome::Wrong(line) => tell(sink, out, 0, Shown::Wrong(line)),

@@ -2,7 +2,7 @@
 // It must not know the rules: it reads, calls the rehearsal and writes.
 #![tactic(auto)]
 
-ghost use Rattle.std.specs.Prelude.{◌+◌, ◌≤◌, ◌<◌, length, IfOk};
+ghost use Rattle.std.specs.Prelude.{◌≡◌, ◌+◌, ◌≤◌, ◌<◌, length, IfOk, OnErr};
 ghost use Rattle.sayings.specs.Texts.{most_text};
 ghost use Rattle.telling.specs.Going.{Filled, Ready, Onto};
 
@@ -41,7 +41,8 @@ fn place_in<W: Write>(sink: &mut W, out: &[u8], at: usize) -> io::Result<usize>
 
 fn tell<W: Write>(sink: &mut W, out: &mut [u8], at: usize, said: Said) -> io::Result<usize>
     requires { (at ≤ length out.old) × (most_text ≤ length out.old) }
-    ensures { IfOk result (λ to. to ≤ length out.old) }
+    ensures told { IfOk result (λ to. to ≤ length out.old) }
+    ensures failed { OnErr result (length out.new ≡ length out.old) }
 {
     let to = place_in(sink, out, at)?;
     Ok(sayings::put::said(out, to, said))
@@ -50,7 +51,8 @@ fn tell<W: Write>(sink: &mut W, out: &mut [u8], at: usize, said: Said) -> io::Re
 // The ticks of a run, if one is under way.
 fn run<W: Write>(sink: &mut W, out: &mut [u8], running: Running) -> io::Result<Running>
     requires { Filled out.old running.session running.at }
-    ensures { IfOk result (λ ran. Filled out.old ran.session ran.at) }
+    ensures told { IfOk result (λ ran. Filled out.old ran.session ran.at) }
+    ensures failed { OnErr result (length out.new ≡ length out.old) }
 {
     let mut session = running.session;
     let mut at = running.at;
@@ -66,7 +68,8 @@ fn run<W: Write>(sink: &mut W, out: &mut [u8], running: Running) -> io::Result<R
 // One line and what it answers.
 fn hear<W: Write>(input: &[u8], sink: &mut W, out: &mut [u8], going: Going) -> io::Result<Going>
     requires { Ready input.now out.old going }
-    ensures { IfOk result (λ gone. Onto input.now out.old going gone) }
+    ensures told { IfOk result (λ gone. Onto input.now out.old going gone) }
+    ensures failed { OnErr result (length out.new ≡ length out.old) }
 {
     let at = going.at;
     let read = going.session.read(input, going.place);

@@ -2,7 +2,7 @@
 // It must not know the rules, nor how a line is written: it reads, calls the rehearsal and the runs, and writes.
 #![tactic(auto)]
 
-ghost use Rattle.std.specs.Prelude.{◌≤◌, ◌<◌, IfOk};
+ghost use Rattle.std.specs.Prelude.{◌≤◌, ◌<◌, IfOk, ◌≡◌, length, OnErr};
 ghost use Rattle.waving.specs.Going.{Ready, Onto};
 
 use reading::read_full;
@@ -54,7 +54,9 @@ fn left_after(left: u32, steps: u32) -> u32
 }
 
 // The ticks that a line left to run, if any.
-fn run<W: Write>(sink: &mut W, out: &mut [u8], running: Running) -> io::Result<Running> {
+fn run<W: Write>(sink: &mut W, out: &mut [u8], running: Running) -> io::Result<Running>
+    ensures { OnErr result (length out.new ≡ length out.old) }
+{
     let mut session = running.session;
     let mut cursor = running.cursor;
     while 0 < session.left {
@@ -73,7 +75,8 @@ fn run<W: Write>(sink: &mut W, out: &mut [u8], running: Running) -> io::Result<R
 // One line, and its ticks.
 fn hear<W: Write>(input: &[u8], sink: &mut W, out: &mut [u8], going: Going) -> io::Result<Going>
     requires { Ready input.now going }
-    ensures { IfOk result (λ gone. Onto input.now going gone) }
+    ensures told { IfOk result (λ gone. Onto input.now going gone) }
+    ensures failed { OnErr result (length out.new ≡ length out.old) }
 {
     let read = going.session.read(input, going.place);
     let place = read.place;
@@ -91,7 +94,9 @@ fn hear<W: Write>(input: &[u8], sink: &mut W, out: &mut [u8], going: Going) -> i
 }
 
 // Closes a run: what is still to be written of it, part by part.
-fn close<W: Write>(sink: &mut W, out: &mut [u8], cursor: Cursor) -> io::Result<()> {
+fn close<W: Write>(sink: &mut W, out: &mut [u8], cursor: Cursor) -> io::Result<()>
+    ensures { OnErr result (length out.new ≡ length out.old) }
+{
     let mut cursor = cursor;
     while !cursor.is_none() {
         let closed = waveform::parts::close(cursor, out);

@@ -11,20 +11,20 @@ loop-mark-smaller g c =
 
 pub loop-mark-preserved : goal.loop-mark-preserved
 loop-mark-preserved g c =
-    let t = c.in_ok-at.ensures in
+    let t = c.in_ok-at.ensures.told in
     let before = c.loop-mark.invariant in
     (search rules, omega (arith, t.0, before.0), λ last all k. left_next c.args.text.now last all c.loop-mark.mark c.in-Next.on c.in-Next.ran (sym c.in-Next.ensures) t.1 (before.2 last all k))
 
 -- at the end of the text no stretch is told
-pub returns-after-loop-mark : goal.returns-after-loop-mark
-returns-after-loop-mark g c = (
+pub returns-after-loop-mark-clause-told : goal.returns-after-loop-mark-clause-told
+returns-after-loop-mark-clause-told g c = (
   c.loop-mark.invariant.1,
   listed c.args.text.now _ _ _ _ c.loop-mark.mark c.loop-mark.invariant.2 (λ x m e. let on = next_gets_on c.args.text.now c.loop-mark.mark x m e in omega (arith, on.further, on.inside, c.loop-mark-test.false)),
 )
 
 -- where something else is told, none is
-pub returns-in_default : goal.returns-in_default
-returns-in_default g c = (
+pub returns-in_default-clause-told : goal.returns-in_default-clause-told
+returns-in_default-clause-told g c = (
   c.loop-mark.invariant.1,
   listed c.args.text.now _ _ _ _ c.loop-mark.mark c.loop-mark.invariant.2 (λ x m e. c.in_default.not-Next x m (c.next.ensures ∙ e)),
 )

@@ -16,12 +16,12 @@ pub hear-requires : goal.hear-requires
 hear-requires g c = record { more = search rules; lines = search rules; buffer = c.loop-going.invariant.3 }
 
 pub loop-going-smaller : goal.loop-going-smaller
-loop-going-smaller g c = omega (arith, c.in_ok-going.ensures.further, c.in_ok-going.ensures.inside)
+loop-going-smaller g c = omega (arith, c.in_ok-going.ensures.told.further, c.in_ok-going.ensures.told.inside)
 
 pub loop-going-preserved : goal.loop-going-preserved
 loop-going-preserved g c = (
   search rules,
   search rules,
   search rules,
-  record { good = c.in_ok-going.ensures.buffer.good; filled = search rules; large = search rules },
+  record { good = c.in_ok-going.ensures.told.buffer.good; filled = search rules; large = search rules },
 )

@@ -18,5 +18,5 @@ loop-session-preserved g c = (
   record { good = subst GoodReply (sym c.tick-reply.ensures) (tick_good c.loop-session.session c.loop-session.invariant.1.good); filled = search rules; large = search rules },
 )
 
-pub returns : goal.returns
-returns g c = record { good = c.loop-session.invariant.1.good; filled = search rules; large = search rules }
+pub returns-clause-told : goal.returns-clause-told
+returns-clause-told g c = record { good = c.loop-session.invariant.1.good; filled = search rules; large = search rules }

@@ -2,7 +2,7 @@
 use Rattle.rehearsal.proofs.Replies.{read_on}
 use Rattle.waving.proofs.hear.Goals as goal
 
-pub returns : goal.returns
-returns g c =
+pub returns-clause-told : goal.returns-clause-told
+returns-clause-told g c =
     let on = read_on _ _ _ _ c.read-read.ensures c.requires.lines c.requires.more in
     record { further = on.further; inside = on.inside; lines = on.lines }
