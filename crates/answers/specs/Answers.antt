@@ -1,5 +1,5 @@
 -- What each answer is by the rules: the refusals' numbers, the first line that holds, and whom a tick goes to.
-use Rattle.std.specs.Prelude.{Bool, true, false, not, cond, ◌&&◌, List, [], ◌∷◌, ℕ}
+use Rattle.std.specs.Prelude.{Bool, true, not, cond, ◌&&◌, List, [], ◌∷◌, ℕ}
 use Rattle.answers.specs.declared.Refusal.{Refusal}
 use Rattle.answers.specs.declared.Refusal.TheVariants.{
   NumberZero,
@@ -22,8 +22,9 @@ use Rattle.answers.specs.declared.Refusal.TheVariants.{
   NoShare,
   NoWaveform,
 }
-use Rattle.answers.specs.declared.Verdict.{Verdict}
-use Rattle.answers.specs.declared.Verdict.TheVariants.{Yes, No}
+use Rattle.answers.specs.Verdicts.{Verdict}
+use Rattle.std.specs.Prelude.{Result, Ok, Err}
+use Rattle.std.specs.Result.{is_ok}
 use Rattle.answers.specs.declared.Who.{Who}
 use Rattle.answers.specs.declared.Who.TheVariants.{Job, Feed, Idle}
 
@@ -51,8 +52,8 @@ number_of NoWaveform = 20
 
 -- 0 for yes, else the refusal's number
 abbrev pub answer_of : Verdict → ℕ
-answer_of Yes = 0
-answer_of (No r) = number_of r
+answer_of (Ok tt) = 0
+answer_of (Err r) = number_of r
 
 -- a line of the rules: the refusal, and whether its condition holds
 pub record Line : Type 0 where
@@ -64,17 +65,26 @@ line b r = record { holds = b; refusal = r }
 
 -- the refusal of the first line that holds; yes where none does
 unfoldable pub first_of : List Line → Verdict
-first_of [] = Yes
-first_of (l ∷ ls) = cond l.holds (No l.refusal) (first_of ls)
+first_of [] = Ok tt
+first_of (l ∷ ls) = cond l.holds (Err l.refusal) (first_of ls)
 
 -- what is handed back: the first where the answer is yes, else the second
 abbrev pub on_yes : {A : Type 0} → Verdict → A → A → A
-on_yes Yes a b = a
-on_yes (No r) a b = b
+on_yes (Ok tt) a b = a
+on_yes (Err r) a b = b
+
+-- what a call that may be refused hands out: this where the answer is yes, else the refusal
+abbrev pub yes_with : {A : Type 0} → Verdict → A → Result A Refusal
+yes_with (Ok tt) a = Ok a
+yes_with (Err r) a = Err r
+
+-- what such a call answers: yes, or the refusal
+abbrev pub verdict_of : {A : Type 0} → Result A Refusal → Verdict
+verdict_of (Ok a) = Ok tt
+verdict_of (Err r) = Err r
 
 abbrev pub is_yes : Verdict → Bool
-is_yes Yes = true
-is_yes (No r) = false
+is_yes = is_ok
 
 -- none of the lines holds
 unfoldable pub passes : List Line → Bool

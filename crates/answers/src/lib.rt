@@ -2,41 +2,38 @@
 // It must not know the calls.
 #![tactic(auto)]
 
-ghost use Rattle.std.specs.Prelude.{◌≡◌};
-ghost use Rattle.answers.specs.Answers.{number_of, answer_of, kind_of, name_of, is_yes};
+ghost use Rattle.std.specs.Prelude.{◌≡◌, cond, Ok, Err};
+ghost use Rattle.answers.specs.Answers.{number_of, answer_of, kind_of, name_of};
 
 // Why a call is refused.
-#[derive(Clone, Copy)]
+#[derive(Clone, Copy, PartialEq, Eq)]
 pub enum Refusal {
-    NumberZero,
-    Outside,
-    PastLast,
-    NumberLive,
-    Full,
-    DoesNotFit,
-    NothingThere,
-    TooManyFeeds,
-    RoundTooLong,
-    TooMuchLoad,
-    ShortBuffer,
-    NotWholeFeeds,
-    NotInOrder,
-    ShortFront,
-    LengthOff,
-    NoTriangles,
-    ChargeTooHigh,
-    NoShare,
-    NoWaveform,
+    NumberZero = 1,
+    Outside = 2,
+    PastLast = 3,
+    NumberLive = 4,
+    Full = 5,
+    DoesNotFit = 6,
+    NothingThere = 7,
+    TooManyFeeds = 8,
+    RoundTooLong = 9,
+    TooMuchLoad = 10,
+    ShortBuffer = 11,
+    NotWholeFeeds = 12,
+    NotInOrder = 13,
+    ShortFront = 15,
+    LengthOff = 16,
+    NoTriangles = 17,
+    ChargeTooHigh = 18,
+    NoShare = 19,
+    NoWaveform = 20,
 }
 
-#[derive(Clone, Copy)]
-pub enum Verdict {
-    Yes,
-    No(Refusal),
-}
+// A yes, or the refusal.
+pub type Verdict = Result<(), Refusal>;
 
-// Whom a tick goes to: a job by its number, a feed by its position, or nobody.
-#[derive(Clone, Copy)]
+// Whom a tick goes to: a job by its number, a feed by its position, or nobody. Of two, the tick goes to the lesser.
+#[derive(Clone, Copy, PartialEq, Eq, PartialOrd, Ord)]
 pub enum Who {
     Job(u32),
     Feed(u32),
@@ -48,48 +45,24 @@ impl Refusal {
     pub fn number(self) -> u32
         ensures { result ≡ number_of self }
     {
-        match self {
-            Refusal::NumberZero => 1,
-            Refusal::Outside => 2,
-            Refusal::PastLast => 3,
-            Refusal::NumberLive => 4,
-            Refusal::Full => 5,
-            Refusal::DoesNotFit => 6,
-            Refusal::NothingThere => 7,
-            Refusal::TooManyFeeds => 8,
-            Refusal::RoundTooLong => 9,
-            Refusal::TooMuchLoad => 10,
-            Refusal::ShortBuffer => 11,
-            Refusal::NotWholeFeeds => 12,
-            Refusal::NotInOrder => 13,
-            Refusal::ShortFront => 15,
-            Refusal::LengthOff => 16,
-            Refusal::NoTriangles => 17,
-            Refusal::ChargeTooHigh => 18,
-            Refusal::NoShare => 19,
-            Refusal::NoWaveform => 20,
-        }
+        self as u32
+    }
+
+    // A line of the rules: refused where its condition holds.
+    pub fn when(self, holds: bool) -> Verdict
+        ensures { result ≡ cond holds (Err self) (Ok tt) }
+    {
+        if holds { Err(self) } else { Ok(()) }
     }
 }
 
-impl Verdict {
-    // 0 for a yes, else the refusal's number.
-    pub fn answer(self) -> u32
-        ensures { result ≡ answer_of self }
-    {
-        match self {
-            Verdict::Yes => 0,
-            Verdict::No(refusal) => refusal.number(),
-        }
-    }
-
-    pub fn is_yes(self) -> bool
-        ensures { result ≡ is_yes self }
-    {
-        match self {
-            Verdict::Yes => true,
-            Verdict::No(_) => false,
-        }
+// 0 for a yes, else the refusal's number.
+pub fn answer(verdict: Verdict) -> u32
+    ensures { result ≡ answer_of verdict }
+{
+    match verdict {
+        Ok(()) => 0,
+        Err(refusal) => refusal.number(),
     }
 }
 

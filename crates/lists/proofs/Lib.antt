@@ -5,3 +5,4 @@ pub mod Pairs
 pub mod Places
 pub mod Maps
 pub mod Same
+pub mod Every

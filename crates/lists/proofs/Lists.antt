@@ -6,6 +6,7 @@ use mathlib.Core.List.{List, [], ◌∷◌, ◌++◌, map}
 use Prim.Native.Nat.{ℕ, zero, suc, ◌+◌, ◌*◌, ◌≤◌}
 use native.Mathlib.Nat.{le_refl, zero-mul}
 use native.Mathlib.Omega.{arith}
+use lib.ListN.{length}
 use Rattle.lists.proofs.Tests.{false_not_true}
 use Rattle.lists.specs.Lists.{total, Each, Some, keep}
 
@@ -196,6 +197,11 @@ module _ {A : Type 0} where
       go : Some (λ x. 1 ≤ f x) xs ⊎ Each (λ x. f x ≡ 0) xs → Some (λ x. 1 ≤ f x) xs
       go (inl s) = s
       go (inr z) = absurd (omega (arith, total_zero f xs z))
+
+  -- as many elements, each at most so much
+  pub total_at_most : (f : A → ℕ) (m : ℕ) (xs : List A) → Each (λ x. f x ≤ m) xs → total f xs ≤ length xs * m
+  total_at_most f m [] h = omega (arith, zero-mul m)
+  total_at_most f m (x ∷ xs) h = omega (arith, h.0, total_at_most f m xs h.1)
 
   pub total_add : (f g : A → ℕ) (xs : List A) → total (λ x. f x + g x) xs ≡ total f xs + total g xs
   total_add f g [] = refl

@@ -239,6 +239,15 @@ module _ {A : Type 0} where
       let e : suc i + 1 ≡ suc (i + 1) = omega arith in
       rw e (ap (h x ∷◌) (changed_set h d xs i (omega arith)))
 
+  -- one element more is changed, where it stands
+  pub changed_next : (h : A → A) (d : A) (xs : List A) (i : ℕ) → i < length xs
+      → set (changed h i xs) i (h (get_or (changed h i xs) i d)) ≡ changed h (i + 1) xs
+  changed_next h d [] i l = absurd (omega arith)
+  changed_next h d (x ∷ xs) zero l = refl
+  changed_next h d (x ∷ xs) (suc i) l =
+      let e : suc i + 1 ≡ suc (i + 1) = omega arith in
+      rw e (ap (h x ∷◌) (changed_next h d xs i (omega arith)))
+
   length_changed : (h : A → A) (i : ℕ) (xs : List A) → length (changed h i xs) ≡ length xs
   length_changed h zero xs = refl
   length_changed h (suc i) [] = refl
@@ -258,6 +267,11 @@ module _ {A : Type 0} where
   changed_all h zero (x ∷ xs) l = absurd (omega arith)
   changed_all h (suc i) [] l = refl
   changed_all h (suc i) (x ∷ xs) l = ap (h x ∷◌) (changed_all h i xs (omega arith))
+
+  -- all those in use are changed, and the unused places stay
+  pub filled_changed : (n : ℕ) (z : A) (h : A → A) (xs : List A) → map h xs ++ drop (length xs) (filled n z xs) ≡ filled n z (map h xs)
+  filled_changed n z h xs =
+      ap (map h xs ++◌) (drop_at xs (replicate (n - length xs) z) (length xs) refl ∙ ap (λ k. replicate (n - k) z) (sym (length-map xs h)))
 
   -- a place in use is changed
   pub filled_set : (n : ℕ) (z : A) (xs : List A) (i : ℕ) (x : A) → i < length xs → set (filled n z xs) i x ≡ filled n z (set xs i x)

@@ -2,19 +2,18 @@
 // differences that are allowed between them. It must not know feeds, jobs or refusals.
 #![tactic(auto)]
 
-ghost use Rattle.std.specs.Prelude.{◌≡◌, ◌+◌, ◌≤◌, ◌<◌, ◌^◌, ltb, leb, eqb};
+ghost use Rattle.std.specs.Prelude.{◌≡◌, ◌+◌, ◌≤◌, ◌<◌, ◌^◌, leb};
 ghost use Rattle.ticks.specs.Ticks.{last_instant, most_job, most_feed, most_round, most_charge, within, from_one, job_length, owed_length};
-ghost use Rattle.ticks.specs.Ticks.{feed_length, sum};
-ghost use Rattle.ticks.specs.Ticks.{plus, next, previous, back, ticks_since, remainder, later_of, earlier_of, less, instant, ticks};
+ghost use Rattle.ticks.specs.Ticks.{feed_length, sum, plus, next, previous, back, ticks_since, remainder, less, instant, ticks};
 
 // A moment that the clock can read; tick t lies between the instants t and t + 1.
 #[repr(C)]
-#[derive(Clone, Copy)]
+#[derive(Clone, Copy, PartialEq, Eq, PartialOrd, Ord)]
 pub struct Instant(pub u64);
 
 // How many ticks: a work, a period, a lead, an offset.
 #[repr(C)]
-#[derive(Clone, Copy)]
+#[derive(Clone, Copy, PartialEq, Eq, PartialOrd, Ord)]
 pub struct Length(pub u64);
 
 impl Instant {
@@ -39,19 +38,7 @@ impl Instant {
     pub fn within(self) -> bool
         ensures { result ≡ within self }
     {
-        self.0 <= Instant::LAST.0
-    }
-
-    pub fn is_first(self) -> bool
-        ensures { result ≡ eqb self.0 0 }
-    {
-        self.0 == Instant::FIRST.0
-    }
-
-    pub fn is_after(self, other: Instant) -> bool
-        ensures { result ≡ ltb other.0 self.0 }
-    {
-        other.0 < self.0
+        self <= Instant::LAST
     }
 
     pub fn plus(self, by: Length) -> Instant
@@ -81,10 +68,7 @@ impl Instant {
     pub fn back(self, by: Length) -> Instant
         ensures { result ≡ back self by }
     {
-        if self.0 < by.0 {
-            return Instant::FIRST;
-        }
-        Instant(self.0 - by.0)
+        Instant(self.0.saturating_sub(by.0))
     }
 
     // How many ticks lie between an earlier instant and this one.
@@ -101,24 +85,6 @@ impl Instant {
         ensures { result ≡ remainder self period }
     {
         Length(self.0 % period.0)
-    }
-
-    pub fn later_of(self, other: Instant) -> Instant
-        ensures { result ≡ later_of self other }
-    {
-        if self.0 < other.0 {
-            return other;
-        }
-        self
-    }
-
-    pub fn earlier_of(self, other: Instant) -> Instant
-        ensures { result ≡ earlier_of self other }
-    {
-        if other.0 < self.0 {
-            return other;
-        }
-        self
     }
 }
 
@@ -138,7 +104,7 @@ impl Length {
     pub fn of(count: u32) -> Length
         ensures { result ≡ ticks count }
     {
-        Length(count as u64)
+        Length(u64::from(count))
     }
 
     pub fn most_job() -> Length
@@ -169,10 +135,7 @@ impl Length {
     pub fn from_one(self, most: Length) -> bool
         ensures { result ≡ from_one most.0 self }
     {
-        if self.0 < 1 {
-            return false;
-        }
-        self.0 <= most.0
+        Length(1) <= self && self <= most
     }
 
     // A work or a lead that a job may have.
@@ -201,26 +164,14 @@ impl Length {
     pub fn suits_round(self) -> bool
         ensures { result ≡ leb self.0 most_round }
     {
-        self.0 <= Length::ROUND.0
+        self <= Length::ROUND
     }
 
     // A charge that an opening may set.
     pub fn suits_charge(self) -> bool
         ensures { result ≡ leb self.0 most_charge }
     {
-        self.0 <= Length::CHARGE.0
-    }
-
-    pub fn is_none(self) -> bool
-        ensures { result ≡ eqb self.0 0 }
-    {
-        self.0 == Length::NONE.0
-    }
-
-    pub fn is_longer(self, than: Length) -> bool
-        ensures { result ≡ ltb than.0 self.0 }
-    {
-        than.0 < self.0
+        self <= Length::CHARGE
     }
 
     // So many ticks more.
