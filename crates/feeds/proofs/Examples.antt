@@ -13,7 +13,7 @@ use Rattle.plans.specs.Plans.{plan_in, to_the_next}
 use Rattle.plans.specs.Euclid.{GreatestDivisor}
 use Rattle.plans.proofs.Divides.{divisor_none, divisor_rest, multiple_least}
 use Rattle.answers.specs.declared.Refusal.TheVariants.{RoundTooLong, TooMuchLoad, NotWholeFeeds}
-use Rattle.answers.specs.declared.Verdict.TheVariants.{Yes, No}
+use Rattle.std.specs.Prelude.{Ok, Err}
 use Rattle.answers.specs.Answers.{first_of}
 use Rattle.feeds.specs.declared.Feed.{Feed}
 use Rattle.feeds.specs.Feeds.{feed_in}
@@ -38,17 +38,17 @@ module _ (a b g : ℕ) (ha : 1 ≤ a) (hb : 1 ≤ b) (h : GreatestDivisor a b g)
   long_of_two l = so_far_long _ _ _ two_periods l
 
 module _ (charge : Length) (fs : List Feed) (R : ℕ) (within : every feed_in fs ≡ true) (round : round_of (periods fs) ≡ R) where
-  too_long : most_round < R → first_of (feed_lines charge fs) ≡ No RoundTooLong
+  too_long : most_round < R → first_of (feed_lines charge fs) ≡ Err RoundTooLong
   too_long h = feeds_too_long charge fs within (ap (λ r. leb r most_round) round ∙ lt-leb R most_round h)
 
   -- a stretch of L ticks wants more than L
-  too_much : R ≤ most_round → (L : ℕ) → 1 ≤ L → L ≤ R → L < demand charge L fs → first_of (feed_lines charge fs) ≡ No TooMuchLoad
+  too_much : R ≤ most_round → (L : ℕ) → 1 ≤ L → L ≤ R → L < demand charge L fs → first_of (feed_lines charge fs) ≡ Err TooMuchLoad
   too_much h L p q l =
       feeds_too_much charge fs within (ap (λ r. leb r most_round) round ∙ le-leb R most_round h)
       (ap (λ r. carries charge r fs) round ∙ carries_fails charge R fs L p q l)
 
   -- every piece is due when the next one comes, and the round can do what it wants
-  passed : R ≤ most_round → every (λ f. to_the_next f.plan) fs ≡ true → demand charge R fs ≤ R → first_of (feed_lines charge fs) ≡ Yes
+  passed : R ≤ most_round → every (λ f. to_the_next f.plan) fs ≡ true → demand charge R fs ≤ R → first_of (feed_lines charge fs) ≡ Ok tt
   passed h e l =
       let is : IsRound R (periods fs) = subst (λ r. IsRound r (periods fs)) round (round_found (periods fs) (subst (◌≤ most_round) (sym round) h)) in
       feeds_yes charge fs within (ap (λ r. leb r most_round) round ∙ le-leb R most_round h)
@@ -59,15 +59,15 @@ odd : (a : ℕ) → a % 2 ≡ 1 → GreatestDivisor a 2 1
 odd a e = divisor_rest a 2 1 (subst (λ r. GreatestDivisor 2 r 1) (sym e) (divisor_rest 2 1 1 (divisor_none 1)))
 
 -- three numbers are no whole feeds; four and eight are
-pub three_numbers : first_of (shape_lines 3) ≡ No NotWholeFeeds
+pub three_numbers : first_of (shape_lines 3) ≡ Err NotWholeFeeds
 unfolding first_of
 three_numbers = refl
 
-pub four_numbers : first_of (shape_lines 4) ≡ Yes
+pub four_numbers : first_of (shape_lines 4) ≡ Ok tt
 unfolding first_of
 four_numbers = refl
 
-pub eight_numbers : first_of (shape_lines 8) ≡ Yes
+pub eight_numbers : first_of (shape_lines 8) ≡ Ok tt
 unfolding first_of
 eight_numbers = refl
 
@@ -75,7 +75,7 @@ eight_numbers = refl
 abbrev long_list : List ℕ
 long_list = 40319 ∷ 1 ∷ 0 ∷ 40319 ∷ 2 ∷ 1 ∷ 0 ∷ 2 ∷ []
 
-pub long_round : first_of (feed_lines (ticks 0) (feeds_in long_list)) ≡ No RoundTooLong
+pub long_round : first_of (feed_lines (ticks 0) (feeds_in long_list)) ≡ Err RoundTooLong
 unfolding feeds_in every plan_in all_of
 long_round =
     too_long (ticks 0) (feeds_in long_list) (most_round + 1) refl (long_of_two 40319 2 1 (lit≤ tt) (lit≤ tt) (odd 40319 refl) (lit< tt)) (lit< tt)
@@ -84,7 +84,7 @@ long_round =
 abbrev short_list : List ℕ
 short_list = 20159 ∷ 1 ∷ 0 ∷ 20159 ∷ 2 ∷ 1 ∷ 0 ∷ 2 ∷ []
 
-pub short_round : first_of (feed_lines (ticks 0) (feeds_in short_list)) ≡ Yes
+pub short_round : first_of (feed_lines (ticks 0) (feeds_in short_list)) ≡ Ok tt
 unfolding feeds_in every plan_in all_of
 short_round =
     passed (ticks 0) (feeds_in short_list) 40318 refl (round_of_two 20159 2 1 (lit≤ tt) (lit≤ tt) (odd 20159 refl) (lit≤ tt)) (lit≤ tt) refl (lit≤ tt)
@@ -93,16 +93,16 @@ two_and_three : round_of (2 ∷ 3 ∷ []) ≡ 6
 two_and_three = round_of_two 2 3 1 (lit≤ tt) (lit≤ tt) (divisor_rest 2 3 1 (odd 3 refl)) (lit≤ tt)
 
 -- 1 of 2 and 2 of 3 ticks are more than there are
-pub much : first_of (feed_lines (ticks 0) (feeds_in (2 ∷ 1 ∷ 0 ∷ 2 ∷ 3 ∷ 2 ∷ 0 ∷ 3 ∷ []))) ≡ No TooMuchLoad
+pub much : first_of (feed_lines (ticks 0) (feeds_in (2 ∷ 1 ∷ 0 ∷ 2 ∷ 3 ∷ 2 ∷ 0 ∷ 3 ∷ []))) ≡ Err TooMuchLoad
 unfolding feeds_in every plan_in all_of
 much = too_much (ticks 0) (feeds_in (2 ∷ 1 ∷ 0 ∷ 2 ∷ 3 ∷ 2 ∷ 0 ∷ 3 ∷ [])) 6 refl two_and_three (lit≤ tt) 6 (lit≤ tt) (lit≤ tt) (lit< tt)
 
 -- 1 of 2 and 1 of 3 are not
-pub not_much : first_of (feed_lines (ticks 0) (feeds_in (2 ∷ 1 ∷ 0 ∷ 2 ∷ 3 ∷ 1 ∷ 0 ∷ 3 ∷ []))) ≡ Yes
+pub not_much : first_of (feed_lines (ticks 0) (feeds_in (2 ∷ 1 ∷ 0 ∷ 2 ∷ 3 ∷ 1 ∷ 0 ∷ 3 ∷ []))) ≡ Ok tt
 unfolding feeds_in every plan_in all_of
 not_much = passed (ticks 0) (feeds_in (2 ∷ 1 ∷ 0 ∷ 2 ∷ 3 ∷ 1 ∷ 0 ∷ 3 ∷ [])) 6 refl two_and_three (lit≤ tt) refl (lit≤ tt)
 
 -- they are where both are due in the first tick
-pub soon : first_of (feed_lines (ticks 0) (feeds_in (2 ∷ 1 ∷ 0 ∷ 1 ∷ 3 ∷ 1 ∷ 0 ∷ 1 ∷ []))) ≡ No TooMuchLoad
+pub soon : first_of (feed_lines (ticks 0) (feeds_in (2 ∷ 1 ∷ 0 ∷ 1 ∷ 3 ∷ 1 ∷ 0 ∷ 1 ∷ []))) ≡ Err TooMuchLoad
 unfolding feeds_in every plan_in all_of
 soon = too_much (ticks 0) (feeds_in (2 ∷ 1 ∷ 0 ∷ 1 ∷ 3 ∷ 1 ∷ 0 ∷ 1 ∷ [])) 6 refl two_and_three (lit≤ tt) 1 (lit≤ tt) (lit≤ tt) (lit< tt)

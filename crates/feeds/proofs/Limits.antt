@@ -2,17 +2,16 @@
 use mathlib.Core.Path.{◌≡◌, ap}
 use mathlib.Core.Bool.{true}
 use mathlib.Core.List.{List}
-use Prim.Native.Nat.{ℕ, ◌≤◌, ◌<◌}
+use Prim.Native.Nat.{ℕ, ◌<◌}
 use lib.ListN.{length, get_or}
 use borrow.Author.Tests.{eqb-true, eq-eqb}
 use Rattle.ticks.specs.Ticks.{ticks}
 use Rattle.lists.specs.Lists.{every, Each}
 use Rattle.lists.proofs.Tests.{all_of_lem, all_of_made}
-use Rattle.lists.proofs.Places.{each_of_every, every_of_each, each_live}
+use Rattle.lists.proofs.Places.{each_of_every, every_of_each, each_get_or}
 use Rattle.plans.proofs.Plans.{plan_in_lem, plan_in_made, unused_plan_lem, unused_plan_made}
 use Rattle.feeds.specs.declared.Feed.{Feed}
-use Rattle.feeds.specs.declared.Feeds.{Feeds}
-use Rattle.feeds.specs.Feeds.{feed_in, FeedIn, unused_feed, no_feed, in_use}
+use Rattle.feeds.specs.Feeds.{feed_in, FeedIn, unused_feed, no_feed}
 
 pub feeds_in_lem : (fs : List Feed) → every feed_in fs ≡ true → Each FeedIn fs
 feeds_in_lem fs h = each_of_every feed_in FeedIn (λ f. plan_in_lem f.plan) fs h
@@ -20,11 +19,9 @@ feeds_in_lem fs h = each_of_every feed_in FeedIn (λ f. plan_in_lem f.plan) fs h
 pub feeds_in_made : (fs : List Feed) → Each FeedIn fs → every feed_in fs ≡ true
 feeds_in_made fs h = every_of_each feed_in FeedIn (λ f. plan_in_made f.plan) fs h
 
--- the feed at a place in use
-pub feed_in_use :
-    (s : Feeds) (i : ℕ) → every feed_in (in_use s) ≡ true → i < s.count → s.count ≤ length s.feeds →
-    FeedIn (get_or s.feeds i no_feed)
-feed_in_use s i h l k = each_live FeedIn s.feeds s.count i no_feed (feeds_in_lem (in_use s) h) l k
+-- the feed at a place
+pub feed_in_at : (fs : List Feed) (i : ℕ) → every feed_in fs ≡ true → i < length fs → FeedIn (get_or fs i no_feed)
+feed_in_at fs i h l = each_get_or FeedIn fs i no_feed (feeds_in_lem fs h) l
 
 pub unused_feed_lem : (f : Feed) → unused_feed f ≡ true → f ≡ no_feed
 unfolding unused_feed

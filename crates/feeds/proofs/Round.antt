@@ -1,5 +1,5 @@
 -- The round is the least number that every period goes into; and the round so far, feed by feed.
-use mathlib.Core.Path.{◌≡◌, refl, sym, ap, ◌∙◌}
+use mathlib.Core.Path.{◌≡◌, refl, sym, ap, subst, ◌∙◌}
 use mathlib.Core.Bool.{Bool, true, false, cond, false≢true}
 use mathlib.Core.List.{List, [], ◌∷◌}
 use Prim.Native.Nat.{ℕ, zero, suc, ◌+◌, ◌*◌, ◌/◌, ◌%◌, ◌≤◌, ◌<◌, ◌∣◌, min}
@@ -7,13 +7,16 @@ use native.Mathlib.Omega.{arith}
 use native.Mathlib.Decide.{dec_lt, ℕ_discrete}
 use native.Mathlib.Nat.{one-dvd, dvd_trans, dvd_refl, dvd-mod_iff, mod-lt, le_of_dvd, mod-eq-zero_of_dvd}
 use native.Mathlib.Nat.{dvd_of_mod-eq-zero}
+use lib.ListN.{length, get_or, drop}
 use borrow.Author.Tests.{eq-eqb, eqb-true}
 use Rattle.ticks.specs.Ticks.{most_round}
 use Rattle.lists.specs.Lists.{every, Each}
-use Rattle.lists.proofs.Places.{each_of_every, every_of_each}
+use Rattle.lists.proofs.Places.{next, no_more, each_of_every, every_of_each}
 use Rattle.plans.specs.Euclid.{GreatestDivisor, LeastMultiple}
 use Rattle.plans.proofs.Divides.{divisor_none, divisor_rest, multiple_least}
-use Rattle.feeds.specs.Round.{IsRound, goes_into, first_from, round_of}
+use Rattle.feeds.specs.declared.Feed.{Feed}
+use Rattle.feeds.specs.Feeds.{no_feed}
+use Rattle.feeds.specs.Round.{IsRound, periods, goes_into, first_from, round_of}
 
 module _ (p : ℕ → Bool) where
   first_from_lem : (k n : ℕ) → n ≤ first_from p k n
@@ -168,6 +171,20 @@ so_far_done R ps s = record {
 -- a round that is too long so far is too long
 pub so_far_long : (round : ℕ) (left ps : List ℕ) → SoFar round left ps → most_round < round → round_of ps ≡ most_round + 1
 so_far_long round left ps s h = round_long ps (λ m l c. omega (arith, le_of_dvd l (s.parts m c).0))
+
+-- the same of feeds that are gone through from the first: the next one's period is taken in
+pub so_far_next :
+    (round l i : ℕ) (fs : List Feed) → i < length fs → SoFar round (periods (drop i fs)) (periods fs)
+    → LeastMultiple round (get_or fs i no_feed).plan.period.0 l → SoFar l (periods (drop (i + 1) fs)) (periods fs)
+so_far_next round l i fs h s t =
+    so_far_more round (get_or fs i no_feed).plan.period.0 l (periods (drop (i + 1) fs)) (periods fs)
+    (subst (λ r. SoFar round r (periods fs)) (ap periods (next fs i no_feed h)) s) t
+
+-- all are taken in
+pub so_far_all :
+    (round i : ℕ) (fs : List Feed) → length fs ≤ i → SoFar round (periods (drop i fs)) (periods fs) → round ≤ most_round → round_of (periods fs) ≡ round
+so_far_all round i fs h s l =
+    round_is (periods fs) round (so_far_done round (periods fs) (subst (λ r. SoFar round r (periods fs)) (ap periods (no_more fs i h)) s)) l
 
 -- with no feeds the round is 1
 pub round_none : round_of [] ≡ 1

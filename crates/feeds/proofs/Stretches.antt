@@ -5,17 +5,19 @@ use mathlib.Core.Bool.{Bool, true, false, ◌&&◌, false≢true}
 use mathlib.Core.List.{List}
 use Prim.Native.Nat.{ℕ, zero, suc, ◌+◌, ◌-◌, ◌*◌, ◌/◌, ◌≤◌, ◌<◌, ◌∣◌}
 use native.Mathlib.Decide.{dec_le, ℕ_discrete}
-use native.Mathlib.Nat.{mul-le-mul_left, mul-le-mul_right, le_of_mul-le-mul_right, mul-div_cancel', div-mul-le_self, div-eq_of_lt, mul-zero}
+use native.Mathlib.Nat.{div-le_self, mul-le-mul, mul-le-mul_left, mul-le-mul_right, le_of_mul-le-mul_right, mul-div_cancel', div-mul-le_self, div-eq_of_lt, mul-zero}
 use native.Mathlib.Omega.{arith}
 use borrow.Author.Tests.{leb-true, le-leb, eqb-true}
+use lib.ListN.{length}
+use Rattle.ticks.specs.Ticks.{most_feed, most_round, most_charge}
 use Rattle.lists.specs.Lists.{every, Each}
-use Rattle.lists.proofs.Lists.{each_imp, each_both, each_of_map, total_zero, total_le, total_le_all, total_scale}
+use Rattle.lists.proofs.Lists.{each_imp, each_both, each_of_map, total_zero, total_le, total_le_all, total_scale, total_at_most}
 use Rattle.lists.proofs.Numbers.{div_mono}
 use Rattle.lists.proofs.Places.{each_of_every}
 use Rattle.lists.proofs.Tests.{leb_elim, both, both_made}
 use Rattle.ticks.specs.declared.Length.{Length}
 use Rattle.plans.specs.declared.Plan.{Plan}
-use Rattle.plans.specs.Plans.{PlanIn, to_the_next, charged, stretch}
+use Rattle.plans.specs.Plans.{PlanIn, to_the_next, charged, stretch, most_piece}
 use Rattle.feeds.specs.declared.Feed.{Feed}
 use Rattle.feeds.specs.Feeds.{FeedIn}
 use Rattle.feeds.specs.Round.{IsRound, periods, demand, carries}
@@ -121,3 +123,17 @@ round_decides c R fs r e h L =
       mul-le-mul_right L h,
     ))
     r.some
+
+-- a stretch that is no longer than the longest round wants so much at most of each feed, and of all of them together
+stretch_at_most : (c : Length) (L : ℕ) (p : Plan) → PlanIn p → c.0 ≤ most_charge → L ≤ most_round → stretch c L p ≤ most_piece * (most_round + most_feed)
+stretch_at_most c L p h k l =
+    let T = p.period.0 in
+    let w : charged c p ≤ most_piece = omega (arith, h.work.1) in
+    let n : (L + (T - p.lead.0)) / T ≤ most_round + most_feed = omega (arith, div-le_self (L + (T - p.lead.0)) T, h.period.1) in
+    mul-le-mul w n
+
+pub demand_at_most : (c : Length) (L : ℕ) (fs : List Feed) → Each FeedIn fs → c.0 ≤ most_charge → L ≤ most_round
+    → demand c L fs ≤ length fs * (most_piece * (most_round + most_feed))
+demand_at_most c L fs h k l =
+    total_at_most (λ f. stretch c L f.plan) (most_piece * (most_round + most_feed)) fs
+    (each_imp FeedIn (λ f. stretch c L f.plan ≤ most_piece * (most_round + most_feed)) (λ f p. stretch_at_most c L f.plan p k l) fs h)

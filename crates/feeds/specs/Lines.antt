@@ -1,5 +1,5 @@
 -- The lines that feeds are put to, each once: by the opening, and by the test of any state.
-use Rattle.std.specs.Prelude.{Bool, not, List, [], ◌∷◌, ℕ, ◌+◌, ◌*◌, ◌/◌, ◌%◌, ◌≤◌, leb, ltb, eqb, length, get_or, drop}
+use Rattle.std.specs.Prelude.{Bool, not, List, [], ◌∷◌, ℕ, ◌/◌, ◌%◌, ◌≤◌, leb, ltb, eqb, length, drop}
 use Rattle.ticks.specs.declared.Instant.{Instant}
 use Rattle.ticks.specs.declared.Length.{Length}
 use Rattle.ticks.specs.Ticks.{most_round, ticks}
@@ -54,12 +54,6 @@ pub record FeedsIn (charge : Length) (clock : Instant) (fs : List Feed) : Type 0
 abbrev pub feed : ℕ → ℕ → ℕ → ℕ → Feed
 feed period work offset lead =
     feed_of (record { period = ticks period; work = ticks work; offset = ticks offset; lead = ticks lead }) 0
-
--- the feed at a place of the list
-abbrev pub feed_at : List ℕ → ℕ → Feed
-feed_at xs i =
-    feed (get_or xs (numbers_a_feed * i) 0) (get_or xs (numbers_a_feed * i + 1) 0) (get_or xs (numbers_a_feed * i + 2) 0)
-    (get_or xs (numbers_a_feed * i + 3) 0)
 
 -- four numbers a feed; one, two or three that are left over make none
 unfoldable pub feeds_in : List ℕ → List Feed

@@ -8,11 +8,11 @@ ghost use Rattle.std.specs.Prelude.{◌≡◌, true, [], map, ◌+◌, ◌*◌, 
 ghost use Rattle.ticks.specs.Ticks.{most_round, most_charge, ticks};
 ghost use Rattle.lists.specs.Lists.{every, Each};
 ghost use Rattle.plans.specs.Plans.{to_the_next};
-ghost use Rattle.answers.specs.declared.Verdict.TheVariants.{Yes};
+ghost use Rattle.std.specs.Prelude.{Ok};
 ghost use Rattle.answers.specs.Answers.{first_of};
 ghost use Rattle.feeds.specs.Feeds.{most_feeds, numbers_a_feed, no_feed, feed_in, FeedIn, unused_feed, in_use, feeds_of, owing, Tidy, Bearable};
 ghost use Rattle.feeds.specs.Round.{round_of, periods, demand, carries};
-ghost use Rattle.feeds.specs.Lines.{shape_lines, feed_lines, feeds_pass, feeds_in, feed_at};
+ghost use Rattle.feeds.specs.Lines.{shape_lines, feed_lines, feeds_pass, feeds_in, feed};
 ghost use Rattle.feeds.specs.Pieces.{piece_in, owes_then, arrived, served, rested, owes_at};
 
 use answers::{Refusal, Verdict};
@@ -21,7 +21,7 @@ use ticks::{Instant, Length};
 
 // A printer's feed: its plan, and what the piece that came last still wants.
 #[repr(C)]
-#[derive(Clone, Copy)]
+#[derive(Clone, Copy, PartialEq, Eq)]
 pub struct Feed {
     pub plan: Plan,
     pub owes: Length,
@@ -64,57 +64,66 @@ impl Feed {
         Feed::NONE
     }
 
+    // No piece of it has come yet.
+    fn of(period: u32, work: u32, offset: u32, lead: u32) -> Feed
+        ensures { result ≡ feed period work offset lead }
+    {
+        Feed {
+            plan: Plan {
+                period: Length::of(period),
+                work: Length::of(work),
+                offset: Length::of(offset),
+                lead: Length::of(lead),
+            },
+            owes: Length::NONE,
+        }
+    }
+
+    #[tactic(auto, unfolding(crate::specs::Feeds::unused_feed, plans::specs::Plans::unused_plan, lists::specs::Lists::all_of))]
     pub fn is_none(self) -> bool
         ensures { result ≡ unused_feed self }
     {
-        if !self.plan.is_none() {
-            return false;
-        }
-        self.owes.is_none()
+        self == Feed::NONE
     }
 
     // What a state in order says of the current piece: it owes at most its charged work, nothing while the clock is below the
     // offset, and nothing from its deadline on.
+    #[tactic(auto, unfolding(crate::specs::Pieces::piece_in, lists::specs::Lists::all_of))]
     fn piece_in(self, charge: Length, clock: Instant) -> bool
         requires { FeedIn self × (charge.0 ≤ most_charge) × (clock.0 < 2 ^ 63) }
         ensures { result ≡ piece_in charge clock self }
     {
-        if self.owes.is_longer(self.plan.charged(charge)) {
-            return false;
-        }
-        if self.owes.is_none() {
-            return true;
-        }
-        let first = Instant::FIRST.plus(self.plan.offset);
-        if first.is_after(clock) {
-            return false;
-        }
-        self.plan.lead.is_longer(self.plan.since(clock))
+        self.owes <= self.plan.charged(charge)
+            && (self.owes == Length::NONE
+                || Instant::FIRST.plus(self.plan.offset) <= clock
+                    && self.plan.since(clock) < self.plan.lead)
     }
 
     // What the current piece owes at this instant: one that comes then its charged work, one whose deadline has come nothing.
+    #[tactic(auto, unfolding(crate::specs::Pieces::owes_then))]
     fn owes_then(self, charge: Length, at: Instant) -> Length
         requires { FeedIn self × (charge.0 ≤ most_charge) × (at.0 < 2 ^ 63) }
         ensures { result ≡ owes_then charge at self }
     {
         let since = self.plan.since(at);
-        if since.is_none() {
-            return self.plan.charged(charge);
+        if since == Length::NONE {
+            self.plan.charged(charge)
+        } else if since < self.plan.lead {
+            self.owes
+        } else {
+            Length::NONE
         }
-        if self.plan.lead.is_longer(since) {
-            return self.owes;
-        }
-        Length::NONE
     }
 
+    #[tactic(auto, unfolding(crate::specs::Pieces::arrived))]
     fn arrived(self, charge: Length, at: Instant) -> Feed
         requires { FeedIn self × (charge.0 ≤ most_charge) × (at.0 < 2 ^ 63) }
         ensures { result ≡ arrived charge at self }
     {
-        let owes = self.owes_then(charge, at);
-        let mut feed = self;
-        feed.owes = owes;
-        feed
+        Feed {
+            owes: self.owes_then(charge, at),
+            ..self
+        }
     }
 }
 
@@ -133,14 +142,9 @@ impl Feeds {
         requires { self.count ≤ most_feeds }
         ensures { result ≡ every feed_in (in_use self) }
     {
-        let count = self.count;
-        for i in 0..count {
-            let feed = self.feeds[i];
-            if !feed.plan.within() {
-                return false;
-            }
-        }
-        true
+        self.feeds[..self.count]
+            .iter()
+            .all(|feed| feed.plan.within())
     }
 
     // The places after the feeds are all zero.
@@ -148,13 +152,7 @@ impl Feeds {
         requires { self.count ≤ most_feeds }
         ensures { result ≡ every unused_feed (drop self.count self.feeds) }
     {
-        let count = self.count;
-        for i in count..Feed::MOST {
-            if !self.feeds[i].is_none() {
-                return false;
-            }
-        }
-        true
+        self.feeds[self.count..].iter().all(|feed| feed.is_none())
     }
 
     // The round, or one tick more than the longest where it is longer.
@@ -162,10 +160,9 @@ impl Feeds {
         requires { (self.count ≤ most_feeds) × (every feed_in (in_use self) ≡ true) }
         ensures { result ≡ ticks (round_of (periods (in_use self))) }
     {
-        let count = self.count;
         let mut round = 1;
-        for i in 0..count {
-            round = euclid::multiple(round, self.feeds[i].plan.period.0);
+        for feed in &self.feeds[..self.count] {
+            round = euclid::multiple(round, feed.plan.period.0);
             if Length::ROUND.0 < round {
                 return Length(Length::ROUND.0 + 1);
             }
@@ -178,13 +175,12 @@ impl Feeds {
         requires { Bearable self × (charge.0 ≤ most_charge) × (stretch.0 ≤ most_round) }
         ensures { result ≡ ticks (demand charge stretch.0 (in_use self)) }
     {
-        let count = self.count;
-        let mut sum = 0;
-        for i in 0..count {
-            let feed = self.feeds[i];
-            sum += feed.plan.stretch(charge, stretch);
-        }
-        Length(sum)
+        Length(
+            self.feeds[..self.count]
+                .iter()
+                .map(|feed| feed.plan.stretch(charge, stretch))
+                .sum(),
+        )
     }
 
     // Whether every piece is due when the next one comes.
@@ -192,14 +188,9 @@ impl Feeds {
         requires { self.count ≤ most_feeds }
         ensures { result ≡ every (λ f. to_the_next f.plan) (in_use self) }
     {
-        let count = self.count;
-        for i in 0..count {
-            let feed = self.feeds[i];
-            if !feed.plan.to_the_next() {
-                return false;
-            }
-        }
-        true
+        self.feeds[..self.count]
+            .iter()
+            .all(|feed| feed.plan.to_the_next())
     }
 
     // The walk: down from the round. Where what a stretch wants is no longer than it, so it is for every stretch from that
@@ -209,10 +200,10 @@ impl Feeds {
         ensures { result ≡ carries charge round.0 (in_use self) }
     {
         let mut end = round.and(Length(1));
-        while end.is_longer(Length(1)) {
+        while Length(1) < end {
             let stretch = end.one_less();
             let want = self.demand(charge, stretch);
-            if want.is_longer(stretch) {
+            if stretch < want {
                 return false;
             }
             end = want;
@@ -222,32 +213,28 @@ impl Feeds {
 
     // Line 10: whether in no stretch up to the round more is wanted than it has. Where every piece is due when the next one
     // comes, what the round itself wants decides.
+    #[tactic(auto, using(crate::proofs::Round::round_found, crate::proofs::Stretches::carries_made, crate::proofs::Stretches::carries_fails, crate::proofs::Stretches::round_decides))]
     fn bears(self, charge: Length, round: Length) -> bool
         requires { Bearable self × (charge.0 ≤ most_charge) × (round.0 ≤ most_round) × (round ≡ ticks (round_of (periods (in_use self)))) }
         ensures { result ≡ carries charge round.0 (in_use self) }
     {
         if self.all_to_the_next() {
-            return !self.demand(charge, round).is_longer(round);
+            self.demand(charge, round) <= round
+        } else {
+            self.bears_each(charge, round)
         }
-        self.bears_each(charge, round)
     }
 
     // Lines 2, 9 and 10.
+    #[tactic(auto, unfolding(answers::specs::Answers::first_of))]
     pub fn sound(self, charge: Length) -> Verdict
         requires { (self.count ≤ most_feeds) × (charge.0 ≤ most_charge) }
         ensures { result ≡ first_of (feed_lines charge (in_use self)) }
     {
-        if !self.all_within() {
-            return Verdict::No(Refusal::Outside);
-        }
+        Refusal::Outside.when(!self.all_within())?;
         let round = self.round();
-        if !round.suits_round() {
-            return Verdict::No(Refusal::RoundTooLong);
-        }
-        if !self.bears(charge, round) {
-            return Verdict::No(Refusal::TooMuchLoad);
-        }
-        Verdict::Yes
+        Refusal::RoundTooLong.when(!round.suits_round())?;
+        Refusal::TooMuchLoad.when(!self.bears(charge, round))
     }
 
     // What a state in order says of the current pieces.
@@ -255,31 +242,22 @@ impl Feeds {
         requires { Bearable self × (charge.0 ≤ most_charge) × (clock.0 < 2 ^ 63) }
         ensures { result ≡ every (piece_in charge clock) (in_use self) }
     {
-        let count = self.count;
-        for i in 0..count {
-            if !self.feeds[i].piece_in(charge, clock) {
-                return false;
-            }
-        }
-        true
+        self.feeds[..self.count]
+            .iter()
+            .all(|feed| feed.piece_in(charge, clock))
     }
 
     // Whether any feeds that are handed in are in order at this instant, under this charge: they would pass the opening, the
     // current pieces are in order, and the unused places are all zero.
+    #[tactic(auto, using(answers::proofs::Answers::passes_is, answers::proofs::Answers::passes_yes, answers::proofs::Answers::yes_first), unfolding(crate::specs::Lines::feeds_pass, lists::specs::Lists::all_of))]
     pub fn in_order(self, charge: Length, clock: Instant) -> bool
         requires { (charge.0 ≤ most_charge) × (clock.0 < 2 ^ 63) }
         ensures { result ≡ feeds_pass charge clock self }
     {
-        if Feed::MOST < self.count {
-            return false;
-        }
-        if !self.sound(charge).is_yes() {
-            return false;
-        }
-        if !self.rest_unused() {
-            return false;
-        }
-        self.pieces_in(charge, clock)
+        self.count <= Feed::MOST
+            && self.sound(charge).is_ok()
+            && self.rest_unused()
+            && self.pieces_in(charge, clock)
     }
 
     // The pieces that come at this instant are ready, and those whose deadline has come give way.
@@ -287,30 +265,25 @@ impl Feeds {
         requires { Tidy self × Each FeedIn (in_use self) × (charge.0 ≤ most_charge) × (at.0 < 2 ^ 63) }
         ensures { result ≡ feeds_of (map (arrived charge at) (in_use self)) }
     {
-        let count = self.count;
-        let mut next = self;
-        for i in 0..count {
-            let feed = self.feeds[i].arrived(charge, at);
-            next.feeds[i] = feed;
+        let mut feeds = self.feeds;
+        for feed in &mut feeds[..self.count] {
+            *feed = feed.arrived(charge, at);
         }
-        next
+        Feeds { feeds, ..self }
     }
 
     // What the current piece of the feed at this position still owes; nothing where there is no such feed.
+
     pub fn owes_at(self, position: u32) -> Length
         requires { self.count ≤ most_feeds }
         ensures { result ≡ ticks (owes_at position 1 (in_use self)) }
     {
-        let count = self.count;
         let at = position as usize;
-        if at < 1 {
-            return Length::NONE;
+        if 1 <= at && at <= self.count {
+            self.feeds[at - 1].owes
+        } else {
+            Length::NONE
         }
-        if count < at {
-            return Length::NONE;
-        }
-        let feed = self.feeds[at - 1];
-        feed.owes
     }
 
     // The current piece of the feed at this position owes so much from now on.
@@ -318,11 +291,8 @@ impl Feeds {
         requires { Tidy self × (1 ≤ position) × (position ≤ self.count) }
         ensures { result ≡ feeds_of (set (in_use self) (position - 1) (owing owes (get_or (in_use self) (position - 1) no_feed))) }
     {
-        let at = position as usize;
-        let mut feed = self.feeds[at - 1];
-        feed.owes = owes;
         let mut next = self;
-        next.feeds[at - 1] = feed;
+        next.feeds[position as usize - 1].owes = owes;
         next
     }
 
@@ -343,52 +313,27 @@ impl Feeds {
     }
 }
 
-// The feed at a place of the lent list.
-fn feed_at(list: &[u32], at: usize) -> Feed
-    requires { numbers_a_feed * at + 3 < length list.now }
-    ensures { result ≡ feed_at list.now at }
-{
-    let from = Feed::NUMBERS * at;
-    let period = Length::of(list[from]);
-    let work = Length::of(list[from + 1]);
-    let offset = Length::of(list[from + 2]);
-    let lead = Length::of(list[from + 3]);
-    let plan = Plan {
-        period,
-        work,
-        offset,
-        lead,
-    };
-    Feed {
-        plan,
-        owes: Length::NONE,
-    }
-}
-
 // Lines 12 and 8, which come before the opening instant is looked at.
+#[tactic(auto, unfolding(answers::specs::Answers::first_of))]
 pub fn shape(list: &[u32]) -> Verdict
     ensures { result ≡ first_of (shape_lines (length list.now)) }
 {
-    if list.len() % Feed::NUMBERS != 0 {
-        return Verdict::No(Refusal::NotWholeFeeds);
-    }
-    if Feed::MOST < list.len() / Feed::NUMBERS {
-        return Verdict::No(Refusal::TooManyFeeds);
-    }
-    Verdict::Yes
+    Refusal::NotWholeFeeds.when(list.len() % Feed::NUMBERS != 0)?;
+    Refusal::TooManyFeeds.when(Feed::MOST < list.len() / Feed::NUMBERS)
 }
 
 // The feeds of a list that lines 12 and 8 let pass, each in its place, no piece come yet.
 pub fn taken(list: &[u32]) -> Feeds
-    requires { first_of (shape_lines (length list.now)) ≡ Yes }
+    requires { first_of (shape_lines (length list.now)) ≡ Ok tt }
     ensures { result ≡ feeds_of (feeds_in list.now) }
 {
-    let count = list.len() / Feed::NUMBERS;
-    let mut feeds = Feeds::none();
-    for i in 0..count {
-        let feed = feed_at(list, i);
-        feeds.feeds[i] = feed;
+    let (whole, _) = list.as_chunks::<{ Feed::NUMBERS }>();
+    let mut feeds = [Feed::NONE; Feed::MOST];
+    for (i, &[period, work, offset, lead]) in whole.iter().enumerate() {
+        feeds[i] = Feed::of(period, work, offset, lead);
     }
-    feeds.count = count;
-    feeds
+    Feeds {
+        count: whole.len(),
+        feeds,
+    }
 }

@@ -1,5 +1,5 @@
 -- Laws of the bands: where a count lies, that the table is in order, and what follows for every work.
-use mathlib.Core.Path.{◌≡◌, refl, sym, ap, ◌∙◌}
+use mathlib.Core.Path.{◌≡◌, refl}
 use mathlib.Core.Bool.{Bool, true, cond, ◌&&◌}
 use mathlib.Core.List.{List, [], ◌∷◌, ◌++◌, map}
 use Prim.Native.Nat.{ℕ, suc, ◌≤◌, ◌<◌}
@@ -7,25 +7,10 @@ use native.Mathlib.Nat.{le_refl}
 use native.Mathlib.Omega.{arith}
 use lib.Dec.{leb, ltb}
 use lib.ListN.{drop}
-use borrow.Author.Tests.{le-leb, lt-leb}
+use borrow.Author.Tests.{le-leb}
 use Rattle.lists.proofs.Tests.{leb_elim, ltb_says, both}
 use Rattle.ticks.specs.Ticks.{most_job}
 use Rattle.mesh.specs.Bands.{Band, to, bands, above_work, work_in, work_of}
-
--- the next band reaches the count
-pub band_here : (b : Band) (bs : List Band) (n : ℕ) → n ≤ b.last → b.work ≡ work_in (b ∷ bs) n
-unfolding work_in
-band_here b bs n h = sym (ap (λ t. cond t b.work (work_in bs n)) (le-leb n b.last h))
-
--- it ends before the count, and leaves the work to the bands after it
-pub band_past : (b : Band) (bs : List Band) (n : ℕ) {w : ℕ} → b.last < n → w ≡ work_in bs n → w ≡ work_in (b ∷ bs) n
-unfolding work_in
-band_past b bs n h e = e ∙ sym (ap (λ t. cond t b.work (work_in bs n)) (lt-leb n b.last h))
-
--- no band is left
-pub band_none : (n : ℕ) → above_work ≡ work_in [] n
-unfolding work_in
-band_none n = refl
 
 -- after this band the others reach further and further and want more and more, and a mesh above them all wants the most
 unfoldable pub rises : Band → List Band → Bool

@@ -5,10 +5,9 @@ use Prim.Native.Nat.{ℕ, ◌/◌, ◌%◌, ◌^◌, ◌<◌}
 use native.Mathlib.Nat.{mod-eq_of_lt}
 use native.Mathlib.Omega.{arith}
 use lib.ListN.{replicate, take}
-use Rattle.mesh.specs.declared.Mesh.{Mesh}
 use Rattle.answers.specs.declared.Refusal.{Refusal}
 use Rattle.answers.specs.declared.Refusal.TheVariants.{ShortFront, LengthOff, NoTriangles}
-use Rattle.answers.specs.declared.Verdict.TheVariants.{Yes, No}
+use Rattle.std.specs.Prelude.{Result, Ok, Err}
 use Rattle.answers.specs.Answers.{first_of}
 use Rattle.mesh.specs.Bands.{work_in}
 use Rattle.mesh.specs.Meshes.{triangles_of, mesh_of}
@@ -21,48 +20,42 @@ front n = replicate 80 32 ++ (n % 256 ∷ n / 256 % 256 ∷ n / 65536 % 256 ∷ 
 pub record Example : Type 0 where
   pub lent : List ℕ
   pub size : ℕ
-  pub said : Mesh
+  pub said : Result ℕ Refusal
 
-abbrev pub case : List ℕ → ℕ → Mesh → Example
+abbrev pub case : List ℕ → ℕ → Result ℕ Refusal → Example
 case s n m = record { lent = s; size = n; said = m }
-
-abbrev pub wants : ℕ → Mesh
-wants w = record { verdict = Yes; work = w }
-
-abbrev pub refused : Refusal → Mesh
-refused x = record { verdict = No x; work = 0 }
 
 -- each band's first and last count, and the largest
 abbrev pub worked : List Example
 worked =
-    case (front 1) 134 (wants 4)
-    ∷ case (front 9999) 500034 (wants 4)
-    ∷ case (front 10000) 500084 (wants 16)
-    ∷ case (front 99999) 5000034 (wants 16)
-    ∷ case (front 100000) 5000084 (wants 120)
-    ∷ case (front 999999) 50000034 (wants 120)
-    ∷ case (front 1000000) 50000084 (wants 900)
-    ∷ case (front 9999999) 500000034 (wants 900)
-    ∷ case (front 10000000) 500000084 (wants 8000)
-    ∷ case (front 99999999) 5000000034 (wants 8000)
-    ∷ case (front 100000000) 5000000084 (wants 65536)
-    ∷ case (front 4294967295) 214748364834 (wants 65536)
+    case (front 1) 134 (Ok 4)
+    ∷ case (front 9999) 500034 (Ok 4)
+    ∷ case (front 10000) 500084 (Ok 16)
+    ∷ case (front 99999) 5000034 (Ok 16)
+    ∷ case (front 100000) 5000084 (Ok 120)
+    ∷ case (front 999999) 50000034 (Ok 120)
+    ∷ case (front 1000000) 50000084 (Ok 900)
+    ∷ case (front 9999999) 500000034 (Ok 900)
+    ∷ case (front 10000000) 500000084 (Ok 8000)
+    ∷ case (front 99999999) 5000000034 (Ok 8000)
+    ∷ case (front 100000000) 5000000084 (Ok 65536)
+    ∷ case (front 4294967295) 214748364834 (Ok 65536)
     ∷ []
 
 -- a byte too few is lent, whatever else is wrong; a length that is off, with triangles or without; no triangles; more is lent
 abbrev pub others : List Example
 others =
-    case [] 0 (refused ShortFront)
-    ∷ case (take 83 (front 1)) 134 (refused ShortFront)
-    ∷ case (take 83 (front 0)) 85 (refused ShortFront)
-    ∷ case (front 1) 133 (refused LengthOff)
-    ∷ case (front 1) 135 (refused LengthOff)
-    ∷ case (front 2) 134 (refused LengthOff)
-    ∷ case (front 0) 85 (refused LengthOff)
-    ∷ case (front 16777216) 134 (refused LengthOff)
-    ∷ case (front 4294967295) 18446744073709551615 (refused LengthOff)
-    ∷ case (front 0) 84 (refused NoTriangles)
-    ∷ case (front 1 ++ replicate 50 7) 134 (wants 4)
+    case [] 0 (Err ShortFront)
+    ∷ case (take 83 (front 1)) 134 (Err ShortFront)
+    ∷ case (take 83 (front 0)) 85 (Err ShortFront)
+    ∷ case (front 1) 133 (Err LengthOff)
+    ∷ case (front 1) 135 (Err LengthOff)
+    ∷ case (front 2) 134 (Err LengthOff)
+    ∷ case (front 0) 85 (Err LengthOff)
+    ∷ case (front 16777216) 134 (Err LengthOff)
+    ∷ case (front 4294967295) 18446744073709551615 (Err LengthOff)
+    ∷ case (front 0) 84 (Err NoTriangles)
+    ∷ case (front 1 ++ replicate 50 7) 134 (Ok 4)
     ∷ []
 
 pub as_the_rules_say : map (λ e. mesh_of e.lent e.size) (worked ++ others) ≡ map (λ e. e.said) (worked ++ others)

@@ -1,8 +1,8 @@
 -- What the front of a mesh file and the file's length come to: the lines in their order, then the work.
-use Rattle.std.specs.Prelude.{not, List, [], ◌∷◌, ℕ, ◌+◌, ◌*◌, ltb, eqb, length, get_or}
-use Rattle.mesh.specs.declared.Mesh.{Mesh}
+use Rattle.std.specs.Prelude.{Result, not, List, [], ◌∷◌, ℕ, ◌+◌, ◌*◌, ltb, eqb, length, get_or}
+use Rattle.answers.specs.declared.Refusal.{Refusal}
 use Rattle.answers.specs.declared.Refusal.TheVariants.{ShortFront, LengthOff, NoTriangles}
-use Rattle.answers.specs.Answers.{Line, line, first_of, on_yes}
+use Rattle.answers.specs.Answers.{Line, line, first_of, yes_with}
 use Rattle.mesh.specs.Bands.{work_of}
 
 -- the bytes before the triangle count
@@ -35,9 +35,5 @@ mesh_lines s size =
     ∷ []
 
 -- the first of these lines that holds; where none does, the work
-unfoldable pub mesh_of : List ℕ → ℕ → Mesh
-mesh_of s size =
-    record {
-      verdict = first_of (mesh_lines s size);
-      work = on_yes (first_of (mesh_lines s size)) (work_of (triangles_of s)) 0;
-    }
+unfoldable pub mesh_of : List ℕ → ℕ → Result ℕ Refusal
+mesh_of s size = yes_with (first_of (mesh_lines s size)) (work_of (triangles_of s))

@@ -31,6 +31,10 @@ divisor_rest a b g r = record {
       (dvd-sub d p (dvd-mul_right_of_dvd d q (a / b))));
 }
 
+-- a divisor of some number is some
+pub divisor_some : (a b g : ℕ) → GreatestDivisor a b g → 1 ≤ a → 1 ≤ g
+divisor_some a b g r h = pos_of_dvd_of_pos r.first h
+
 -- what is left of a number after its greatest divisor with another, taken that other's times
 pub multiple_least : (a b g : ℕ) → 1 ≤ a → 1 ≤ b → GreatestDivisor a b g → LeastMultiple a b (a / g * b)
 multiple_least a b g ha hb r = record {
@@ -50,7 +54,7 @@ multiple_least a b g ha hb r = record {
     a_is = mul-div_cancel' g r.first
 
     some_g : 1 ≤ g
-    some_g = pos_of_dvd_of_pos r.first ha
+    some_g = divisor_some a b g r ha
 
     some_q : 1 ≤ q
     some_q = pos_of_ne-zero (λ e. omega (arith, sym a_is ∙ ap (λ x. g * x) e ∙ mul-zero g))

@@ -14,7 +14,7 @@ ghost use Rattle.plans.specs.Plans.{most_piece, no_plan, plan_in, unused_plan, P
 // A piece of `work` ticks comes every `period` ticks, at the instants that leave the remainder `offset`, and is due `lead` ticks
 // after it came.
 #[repr(C)]
-#[derive(Clone, Copy)]
+#[derive(Clone, Copy, PartialEq, Eq)]
 pub struct Plan {
     pub period: Length,
     pub work: Length,
@@ -38,37 +38,25 @@ impl Plan {
     }
 
     // Line 2 for one plan.
+    #[tactic(auto, unfolding(crate::specs::Plans::plan_in, lists::specs::Lists::all_of))]
     pub fn within(self) -> bool
         ensures { result ≡ plan_in self }
     {
-        if !self.period.suits_feed() {
-            return false;
-        }
-        if !self.work.suits_feed() {
-            return false;
-        }
-        if !self.period.is_longer(self.offset) {
-            return false;
-        }
-        self.lead.from_one(self.period)
+        self.period.suits_feed()
+            && self.work.suits_feed()
+            && self.offset < self.period
+            && self.lead.from_one(self.period)
     }
 
+    #[tactic(auto, unfolding(crate::specs::Plans::unused_plan, lists::specs::Lists::all_of))]
     pub fn is_none(self) -> bool
         ensures { result ≡ unused_plan self }
     {
-        if !self.period.is_none() {
-            return false;
-        }
-        if !self.work.is_none() {
-            return false;
-        }
-        if !self.offset.is_none() {
-            return false;
-        }
-        self.lead.is_none()
+        self == Plan::NONE
     }
 
     // How long ago the current piece came: no ticks at a release.
+    #[tactic(auto, unfolding(crate::specs::Plans::since))]
     pub fn since(self, at: Instant) -> Length
         requires { PlanIn self × (at.0 < 2 ^ 63) }
         ensures { result ≡ ticks (since self at.0) }
@@ -78,6 +66,7 @@ impl Plan {
     }
 
     // When the next piece comes.
+    #[tactic(auto, using(crate::proofs::Plans::since_lt), unfolding(crate::specs::Plans::next))]
     pub fn next(self, clock: Instant) -> Instant
         requires { PlanIn self × (clock.0 < 2 ^ 63) }
         ensures { result ≡ instant (next self clock.0) }
@@ -86,6 +75,7 @@ impl Plan {
     }
 
     // When the current piece is due, or was.
+    #[tactic(auto, unfolding(crate::specs::Plans::due))]
     pub fn due(self, clock: Instant) -> Instant
         requires { PlanIn self × (clock.0 < 2 ^ 63) }
         ensures { result ≡ instant (due self clock.0) }
@@ -105,7 +95,7 @@ impl Plan {
     pub fn to_the_next(self) -> bool
         ensures { result ≡ to_the_next self }
     {
-        self.lead.0 == self.period.0
+        self.lead == self.period
     }
 
     // The most that the pieces that come and are due within so many ticks can want together.

@@ -1,33 +1,18 @@
--- `feeds::Feeds::all_to_the_next` meets its contract: every piece is due so exactly if those still to look at are.
-use mathlib.Core.Path.{◌≡◌, sym, ◌∙◌}
-use native.Mathlib.Omega.{arith}
+-- `feeds::Feeds::all_to_the_next` meets its contract: what `all` says of the feeds in use is what the test of every one says.
+use mathlib.Core.Path.{sym, ◌∙◌}
 use borrow.Author.Rules.{rules}
-use borrow.Author.Tests.{not-true, not-false}
-use lib.ListN.{length}
-use Rattle.lists.proofs.Places.{length_mapped, next_live, no_more_live, every_fails, every_goes_on, every_passes}
-use Rattle.feeds.specs.Feeds.{no_feed}
+use borrow.Author.Tests.{tests}
+use Rattle.std.proofs.lemmas.Iterator.{YieldsList-from_slice}
+use Rattle.std.proofs.lemmas.Iterator.Search.{all_from_yields_List}
+use Rattle.lists.proofs.Every.{every_is_all}
+use Rattle.plans.specs.Plans.{to_the_next}
+use Rattle.feeds.specs.declared.Feed.{Feed}
+use Rattle.feeds.specs.Feeds.{in_use}
 use Rattle.feeds.proofs.Feeds.all_to_the_next.Goals as goal
-
-pub returns-then-not-to_the_next : goal.returns-then-not-to_the_next
-returns-then-not-to_the_next c =
-    let s = c.args.self.feeds in
-    let long : length s ≡ 16 = search (rules, length_mapped) in
-    every_fails _ _ _ c.loop-i.invariant.1 _ _
-    (next_live s _ _ no_feed c.loop-i-test.true (omega arith))
-    (sym c.to_the_next.ensures ∙ not-true _ c.if-not-to_the_next.true-raw)
-
-pub loop-i-preserved : goal.loop-i-preserved
-loop-i-preserved c =
-    let s = c.args.self.feeds in
-    let long : length s ≡ 16 = search (rules, length_mapped) in (
-      omega arith,
-      every_goes_on _ _ _ c.loop-i.invariant.1 _ _
-          (next_live s _ _ no_feed c.loop-i-test.true (omega arith))
-          (sym c.to_the_next.ensures ∙ not-false _ c.if-not-to_the_next.false-raw),
-    )
 
 pub returns : goal.returns
 returns c =
-    let s = c.args.self.feeds in
-    let long : length s ≡ 16 = search (rules, length_mapped) in
-    every_passes _ _ _ c.loop-i.invariant.1 (no_more_live s _ _ c.loop-i-test.false (omega arith))
+    let fs = in_use c.args.self in
+    let test = λ (f : Feed). to_the_next f.plan in
+    all_from_yields_List test _ _ c.all.result c.all.ensures.ran (YieldsList-from_slice fs c.iter.ensures.rest) (λ x b q k. search (rules, tests))
+    ∙ sym (every_is_all test fs)

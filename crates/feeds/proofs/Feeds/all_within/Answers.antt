@@ -1,33 +1,15 @@
--- `feeds::Feeds::all_within` meets its contract: the feeds are all within exactly if those still to look at are.
-use mathlib.Core.Path.{◌≡◌, sym, ◌∙◌}
-use native.Mathlib.Omega.{arith}
+-- `feeds::Feeds::all_within` meets its contract: what `all` says of the feeds in use is what the test of every one says.
+use mathlib.Core.Path.{sym, ◌∙◌}
 use borrow.Author.Rules.{rules}
-use borrow.Author.Tests.{not-true, not-false}
-use lib.ListN.{length}
-use Rattle.lists.proofs.Places.{length_mapped, next_live, no_more_live, every_fails, every_goes_on, every_passes}
-use Rattle.feeds.specs.Feeds.{no_feed}
+use borrow.Author.Tests.{tests}
+use Rattle.std.proofs.lemmas.Iterator.{YieldsList-from_slice}
+use Rattle.std.proofs.lemmas.Iterator.Search.{all_from_yields_List}
+use Rattle.lists.proofs.Every.{every_is_all}
+use Rattle.feeds.specs.Feeds.{feed_in, in_use}
 use Rattle.feeds.proofs.Feeds.all_within.Goals as goal
-
-pub returns-then-not-within : goal.returns-then-not-within
-returns-then-not-within c =
-    let s = c.args.self.feeds in
-    let long : length s ≡ 16 = search (rules, length_mapped) in
-    every_fails _ _ _ c.loop-i.invariant.1 _ _
-    (next_live s _ _ no_feed c.loop-i-test.true (omega arith))
-    (sym c.within.ensures ∙ not-true _ c.if-not-within.true-raw)
-
-pub loop-i-preserved : goal.loop-i-preserved
-loop-i-preserved c =
-    let s = c.args.self.feeds in
-    let long : length s ≡ 16 = search (rules, length_mapped) in (
-      omega arith,
-      every_goes_on _ _ _ c.loop-i.invariant.1 _ _
-          (next_live s _ _ no_feed c.loop-i-test.true (omega arith))
-          (sym c.within.ensures ∙ not-false _ c.if-not-within.false-raw),
-    )
 
 pub returns : goal.returns
 returns c =
-    let s = c.args.self.feeds in
-    let long : length s ≡ 16 = search (rules, length_mapped) in
-    every_passes _ _ _ c.loop-i.invariant.1 (no_more_live s _ _ c.loop-i-test.false (omega arith))
+    let fs = in_use c.args.self in
+    all_from_yields_List feed_in _ _ c.all.result c.all.ensures.ran (YieldsList-from_slice fs c.iter.ensures.rest) (λ x b q k. search (rules, tests))
+    ∙ sym (every_is_all feed_in fs)

@@ -1,40 +1,27 @@
--- `feeds::Feeds::pieces_in` meets its contract: the pieces are all in order exactly if those still to look at are.
-use mathlib.Core.Path.{◌≡◌, sym, ◌∙◌}
-use native.Mathlib.Omega.{arith}
+-- `feeds::Feeds::pieces_in` meets its contract: what `all` says of the feeds in use is what the test of every one says.
+use mathlib.Core.Path.{sym, subst, ◌∙◌}
 use borrow.Author.Rules.{rules}
-use borrow.Author.Tests.{not-true, not-false}
-use lib.ListN.{length}
-use Rattle.lists.proofs.Places.{length_mapped, next_live, no_more_live, every_fails, every_goes_on, every_passes}
-use Rattle.feeds.specs.Feeds.{no_feed}
-use Rattle.feeds.proofs.Limits.{feed_in_use}
+use borrow.Author.Tests.{tests}
+use Rattle.std.proofs.lemmas.Iterator.{YieldsList-from_slice}
+use Rattle.std.proofs.lemmas.Iterator.Adapters.{serves_from_places}
+use Rattle.std.proofs.lemmas.Iterator.Search.{all_from_yields_List}
+use Rattle.lists.proofs.Every.{every_is_all}
+use Rattle.lists.proofs.Places.{each_get_or}
+use Rattle.feeds.specs.Feeds.{FeedIn, in_use}
+use Rattle.feeds.specs.Pieces.{piece_in}
+use Rattle.feeds.proofs.Limits.{feeds_in_lem}
 use Rattle.feeds.proofs.Feeds.pieces_in.Goals as goal
 
-pub piece_in-requires : goal.piece_in-requires
-piece_in-requires c =
-    let s = c.args.self in
-    let long : length s.feeds ≡ 16 = search (rules, length_mapped) in
-    (feed_in_use s c.loop-i.i c.requires.0.within c.loop-i-test.true (omega (arith, c.requires.0.few)), c.requires.1, c.requires.2)
-
-pub returns-then-not-piece_in : goal.returns-then-not-piece_in
-returns-then-not-piece_in c =
-    let s = c.args.self.feeds in
-    let long : length s ≡ 16 = search (rules, length_mapped) in
-    every_fails _ _ _ c.loop-i.invariant.1 _ _
-    (next_live s _ _ no_feed c.loop-i-test.true (omega arith))
-    (sym c.piece_in.ensures ∙ not-true _ c.if-not-piece_in.true-raw)
-
-pub loop-i-preserved : goal.loop-i-preserved
-loop-i-preserved c =
-    let s = c.args.self.feeds in
-    let long : length s ≡ 16 = search (rules, length_mapped) in (
-      omega arith,
-      every_goes_on _ _ _ c.loop-i.invariant.1 _ _
-          (next_live s _ _ no_feed c.loop-i-test.true (omega arith))
-          (sym c.piece_in.ensures ∙ not-false _ c.if-not-piece_in.false-raw),
-    )
+pub all-requires-clause-callable : goal.all-requires-clause-callable
+all-requires-clause-callable c =
+    let fs = in_use c.args.self in
+    let within = feeds_in_lem fs c.requires.0.within in
+    serves_from_places (YieldsList-from_slice fs c.iter.ensures.rest) (λ x q k. search (rules, tests))
+    (λ x k l e. let here : FeedIn x.now = subst FeedIn (sym e) (each_get_or FeedIn fs k _ within l) in search rules)
 
 pub returns : goal.returns
 returns c =
-    let s = c.args.self.feeds in
-    let long : length s ≡ 16 = search (rules, length_mapped) in
-    every_passes _ _ _ c.loop-i.invariant.1 (no_more_live s _ _ c.loop-i-test.false (omega arith))
+    let fs = in_use c.args.self in
+    let test = piece_in c.args.charge c.args.clock in
+    all_from_yields_List test _ _ c.all.result c.all.ensures.ran (YieldsList-from_slice fs c.iter.ensures.rest) (λ x b q k. search (rules, tests))
+    ∙ sym (every_is_all test fs)
