@@ -1,21 +1,25 @@
 -- Figures of jobs that stand in the order of the table: the last job due by an instant shows what is owed by then, and one pass
 -- tells whether all figures are the sums.
-use mathlib.Core.Path.{◌≡◌, refl, sym, ap, ◌∙◌}
+use mathlib.Core.Path.{◌≡◌, refl, sym, ap, subst, ◌∙◌}
 use mathlib.Core.Bool.{Bool, true, false, cond, ◌&&◌}
-use mathlib.Core.List.{List, [], ◌∷◌}
+use mathlib.Core.List.{List, [], ◌∷◌, ◌++◌, reverse, append_assoc}
 use Prim.Native.Nat.{ℕ, zero, suc, ◌+◌, ◌≤◌, ◌<◌}
 use native.Mathlib.Omega.{arith}
-use lib.Dec.{eqb}
-use lib.ListN.{length, get_or, drop}
+use lib.Dec.{eqb, leb}
+use lib.ListN.{length, get_or, drop, length-append}
+use lib.Seq.{drop_at, get_or-append_seam}
+use Rattle.std.proofs.lemmas.List.{append-nil, reverse-append, reverse-reverse}
+use Rattle.std.specs.Prelude.{Option, None, Some}
+use Rattle.std.specs.List.{find}
 use borrow.Author.Tests.{eqb-true, eq-eqb}
 use Rattle.lists.specs.Lists.{Each, every}
-use Rattle.lists.proofs.Tests.{eqb_elim}
+use Rattle.lists.proofs.Tests.{eqb_elim, leb_elim}
 use Rattle.lists.proofs.Lists.{each, each_imp, total_zero}
 use Rattle.lists.proofs.Places.{each_get_or}
 use Rattle.jobs.specs.declared.Job.{Job}
 use Rattle.jobs.specs.Jobs.{no_job}
 use Rattle.jobs.specs.Sorted.{Before, Sorted}
-use Rattle.jobs.specs.Figures.{owes_by, owed_by, figure_in, agrees_beside, figure_agrees}
+use Rattle.jobs.specs.Figures.{Figured, owes_by, owed_by, figure_in, agrees_beside, figure_agrees}
 use Rattle.jobs.proofs.Figures.{owes_by_in, owes_by_out}
 
 -- nothing is owed by jobs that are all due later
@@ -37,6 +41,46 @@ last_shows D (suc i) (j ∷ js) s h d n =
   where
     later : Each (λ k. D < k.deadline.0) (drop (suc i + 1) (j ∷ js)) → Each (λ k. D < k.deadline.0) (drop (i + 1) js)
     later h = let e : suc i + 1 ≡ suc (i + 1) = omega arith in rw e at h
+
+-- what a job due by the instant shows that is looked for from the last on, or nothing
+abbrev pub shown : Option Job → ℕ
+shown None = 0
+shown (Some j) = j.figure.0
+
+-- those of which all later ones are due later, the last first
+shown_from : (D : ℕ) (js rs later : List Job) → js ≡ reverse rs ++ later → Sorted js → Figured js → Each (λ k. D < k.deadline.0) later
+    → shown (find (λ j. leb j.deadline.0 D) rs) ≡ owed_by D js
+shown_from D js [] later e s f n = sym (none_owed D js (subst (Each (λ k. D < k.deadline.0)) (sym e) n))
+shown_from D js (r ∷ rs) later e s f n =
+    leb_elim (λ b. shown (cond b (Some r) (find (λ j. leb j.deadline.0 D) rs)) ≡ owed_by D js) r.deadline.0 D
+    (λ due. here due)
+    (λ l. shown_from D js rs (r ∷ later) on s f (l, n))
+  where
+    parted : js ≡ (reverse rs ++ (r ∷ [])) ++ later
+    parted = e ∙ ap (◌++ later) (reverse-append (r ∷ []) rs)
+
+    on : js ≡ reverse rs ++ (r ∷ later)
+    on = parted ∙ append_assoc (reverse rs) (r ∷ []) later
+
+    at : get_or js (length (reverse rs)) no_job ≡ r
+    at = ap (λ l. get_or l (length (reverse rs)) no_job) on ∙ get_or-append_seam (reverse rs) r later no_job
+
+    inside : length (reverse rs) < length js
+    inside = omega (arith, ap length on, length-append (reverse rs) (r ∷ later))
+
+    behind : drop (length (reverse rs) + 1) js ≡ later
+    behind = ap (drop (length (reverse rs) + 1)) parted ∙ drop_at (reverse rs ++ (r ∷ [])) later (length (reverse rs) + 1) (length-append (reverse rs) (r ∷ []))
+
+    here : r.deadline.0 ≤ D → r.figure.0 ≡ owed_by D js
+    here due =
+        let fig : r.figure.0 ≡ figure_in js r = subst (λ j. j.figure.0 ≡ figure_in js j) at (each_get_or (λ j. j.figure.0 ≡ figure_in js j) js (length (reverse rs)) no_job f inside) in
+        let last = last_shows D (length (reverse rs)) js s inside (subst (λ j. j.deadline.0 ≤ D) (sym at) due) (subst (Each (λ k. D < k.deadline.0)) (sym behind) n) in
+        fig ∙ ap (λ j. figure_in js j) (sym at) ∙ sym last
+
+-- found from the last on, the first job due by an instant shows what is owed by then
+pub last_due_shows : (D : ℕ) (js : List Job) → Sorted js → Figured js → shown (find (λ j. leb j.deadline.0 D) (reverse js)) ≡ owed_by D js
+last_due_shows D js s f =
+    shown_from D js (reverse js) [] (sym (append-nil (reverse (reverse js)) ∙ reverse-reverse js)) s f tt
 
 -- the pass: from the job that was looked at last, and what the jobs up to it owe
 unfoldable pub chain : Job → ℕ → List Job → Bool

@@ -1,19 +1,22 @@
 -- The tests of jobs, and the facts that they stand for.
 use mathlib.Core.Path.{◌≡◌, ap}
 use mathlib.Core.Bool.{true}
-use Prim.Native.Nat.{◌+◌}
+use mathlib.Core.List.{List}
+use Prim.Native.Nat.{◌+◌, ◌≤◌, ◌<◌}
+use Rattle.lists.specs.Lists.{every, Each}
 use native.Mathlib.Omega.{arith}
 use borrow.Author.Tests.{leb-true, le-leb, ltb-true, lt-ltb, eqb-true, eq-eqb}
 use Rattle.ticks.specs.declared.Instant.{Instant}
 use Rattle.ticks.specs.declared.Length.{Length}
-use Rattle.ticks.specs.Ticks.{most_job, ticks_since, ticks, instant}
+use Rattle.ticks.specs.Ticks.{most_job, most_charge, ticks_since, ticks, instant}
 use Rattle.lists.proofs.Tests.{all_of_lem, all_of_made}
 use Rattle.ticks.proofs.Tests.{from_one_lem, from_one_made}
 use Rattle.lists.proofs.Places.{each_of_every, every_of_each}
 use Rattle.jobs.specs.declared.Job.{Job}
 use Rattle.jobs.specs.declared.Table.{Table}
 use Rattle.jobs.specs.Jobs.{job_in, JobIn, unused_job, no_job, live, table_in, TableIn}
-use Rattle.jobs.specs.Figures.{figure_in, figure_agrees}
+use Rattle.jobs.specs.Sorted.{rising, Sorted}
+use Rattle.jobs.specs.Figures.{Modest, figure_in, figure_agrees}
 use Rattle.jobs.proofs.Numbers.{distinct_once, once_distinct}
 use Rattle.jobs.proofs.Sorted.{rising_sorted, sorted_rising}
 
@@ -43,6 +46,15 @@ job_in_made charge clock j h =
         ),
       ),
     )
+
+-- jobs within their limits and in order are modest, due after the first instant and sorted, so that their figures can be added up
+pub ready_to_add_up : (charge : Length) (clock : Instant) (js : List Job) → every (job_in charge clock) js ≡ true → rising js ≡ true → charge.0 ≤ most_charge
+    → Each Modest js × Each (λ j. 0 < j.deadline.0) js × Sorted js
+ready_to_add_up charge clock js all up h = (
+  each_of_every (job_in charge clock) Modest (λ j t. omega (arith, (job_in_lem charge clock j t).owed.1, h)) js all,
+  each_of_every (job_in charge clock) (λ j. 0 < j.deadline.0) (λ j t. omega (arith, (job_in_lem charge clock j t).ahead)) js all,
+  rising_sorted js up,
+)
 
 pub unused_job_lem : (j : Job) → unused_job j ≡ true → j ≡ no_job
 unfolding unused_job

@@ -5,44 +5,37 @@ use mathlib.Core.List.{List, [], ◌∷◌, ◌++◌}
 use Prim.Native.Nat.{ℕ, zero, suc, ◌+◌, ◌≤◌}
 use native.Mathlib.Omega.{arith}
 use lib.Dec.{eqb}
-use lib.ListN.{take, drop}
-use borrow.Author.Tests.{eq-eqb, ne_eqb, eqb-true, eqb-false, not-true}
+use lib.ListN.{length, get_or, take, drop}
+use borrow.Author.Tests.{eq-eqb, ne_eqb, eqb-true, eqb-false, not-true, not-false}
 use Rattle.lists.specs.Lists.{every, bit}
 use Rattle.lists.proofs.Tests.{both, both_made}
 use Rattle.lists.proofs.Lists.{total_append}
 use Rattle.jobs.specs.declared.Job.{Job}
-use Rattle.jobs.specs.declared.Found.{Found}
-use Rattle.jobs.specs.declared.Found.TheVariants.{At, Nothing}
-use Rattle.jobs.specs.Jobs.{pick_found, found_in, lacks, distinct, times, others, FoundAt}
-
--- the next job has the number
-pub found_here : (n k : ℕ) (j : Job) (js : List Job) → j.number ≡ n → found_in n k (j ∷ js) ≡ At k
-unfolding found_in
-found_here n k j js e = ap (λ b. pick_found b (At k) (found_in n (suc k) js)) (eq-eqb j.number n e)
-
--- the next job has another
-pub found_past :
-    (n k : ℕ) (j : Job) (js : List Job) → (j.number ≡ n → ⊥) → found_in n k (j ∷ js) ≡ found_in n (suc k) js
-unfolding found_in
-found_past n k j js e = ap (λ b. pick_found b (At k) (found_in n (suc k) js)) (ne_eqb j.number n e)
-
-pub found_none : (n k : ℕ) → found_in n k [] ≡ Nothing
-unfolding found_in
-found_none n k = refl
-
-abbrev pub nothing : Found → Bool
-nothing (At k) = false
-nothing Nothing = true
+use Rattle.std.specs.Prelude.{Some, None, is_none, ◌||◌}
+use Rattle.std.specs.List.{list_any}
+use Rattle.jobs.specs.Jobs.{no_job, found_in, lacks, distinct, times, others, FoundAt}
 
 -- a number that is not found is not there
-pub lacks_found : (n k : ℕ) (js : List Job) → lacks n js ≡ nothing (found_in n k js)
-unfolding lacks every found_in
+pub lacks_found : (n k : ℕ) (js : List Job) → lacks n js ≡ is_none (found_in n k js)
+unfolding lacks every
 lacks_found n k [] = refl
-lacks_found n k (j ∷ js) = go (eqb j.number n) (lacks_found n (suc k) js)
+lacks_found n k (j ∷ js) = go (eqb j.number n) (lacks_found n (k + 1) js)
   where
     go :
-        (b : Bool) → lacks n js ≡ nothing (found_in n (suc k) js) →
-        not b && lacks n js ≡ nothing (pick_found b (At k) (found_in n (suc k) js))
+        (b : Bool) → lacks n js ≡ is_none (found_in n (k + 1) js) →
+        not b && lacks n js ≡ is_none (cond b (Some k) (found_in n (k + 1) js))
+    go true ih = refl
+    go false ih = ih
+
+-- some job has the number, or it is not there
+pub any_or_lacks : (n : ℕ) (js : List Job) → list_any (λ j. eqb j.number n) js ≡ not (lacks n js)
+unfolding lacks every
+any_or_lacks n [] = refl
+any_or_lacks n (j ∷ js) = go (eqb j.number n) (any_or_lacks n js)
+  where
+    go :
+        (b : Bool) → list_any (λ k. eqb k.number n) js ≡ not (lacks n js) →
+        b || list_any (λ k. eqb k.number n) js ≡ not (not b && lacks n js)
     go true ih = refl
     go false ih = ih
 
@@ -57,6 +50,15 @@ distinct_past j js h = ap (λ b. b && distinct js) h
 pub distinct_stop : (j : Job) (js : List Job) → lacks j.number js ≡ false → distinct (j ∷ js) ≡ false
 unfolding distinct
 distinct_stop j js h = ap (λ b. b && distinct js) h
+
+-- the first job's number stands among those behind it, or not
+pub stands_behind : (js : List Job) (r : Bool) → 1 ≤ length js → r ≡ list_any (λ j. eqb j.number (get_or js 0 no_job).number) (drop 1 js) → r ≡ true → distinct js ≡ false
+stands_behind [] r l e t = absurd (omega arith)
+stands_behind (j ∷ js) r l e t = distinct_stop j js (not-true (lacks j.number js) (sym (any_or_lacks j.number js) ∙ sym e ∙ t))
+
+pub none_behind : (js : List Job) (r : Bool) → 1 ≤ length js → r ≡ list_any (λ j. eqb j.number (get_or js 0 no_job).number) (drop 1 js) → r ≡ false → distinct js ≡ distinct (drop 1 js)
+none_behind [] r l e f = absurd (omega arith)
+none_behind (j ∷ js) r l e f = distinct_past j js (not-false (lacks j.number js) (sym (any_or_lacks j.number js) ∙ sym e ∙ f))
 
 -- a number that is not there stands no times, and the other way round
 pub lacks_times : (n : ℕ) (js : List Job) → lacks n js ≡ true → times n js ≡ 0
@@ -118,19 +120,18 @@ once_distinct (j ∷ js) h =
     (once_distinct js (λ n. omega (arith, h n)))
 
 -- a number that is not found stands no times
-pub found_nothing : (n k : ℕ) (js : List Job) → found_in n k js ≡ Nothing → times n js ≡ 0
-found_nothing n k js e = lacks_times n js (lacks_found n k js ∙ ap nothing e)
+pub found_nothing : (n k : ℕ) (js : List Job) → found_in n k js ≡ None → times n js ≡ 0
+found_nothing n k js e = lacks_times n js (lacks_found n k js ∙ ap is_none e)
 
 -- a number that is found stands there, and not before
-pub found_at : (n k i : ℕ) (js : List Job) → found_in n k js ≡ At i → (m : ℕ) × (i ≡ k + m) × FoundAt n m js
-unfolding found_in
+pub found_at : (n k i : ℕ) (js : List Job) → found_in n k js ≡ Some i → (m : ℕ) × (i ≡ k + m) × FoundAt n m js
 found_at n k i [] e = absurd (let z : ◌≡◌ {A = ℕ} 0 1 = cc in omega arith)
-found_at n k i (j ∷ js) e = go (eqb j.number n) refl (found_at n (suc k) i js) e
+found_at n k i (j ∷ js) e = go (eqb j.number n) refl (found_at n (k + 1) i js) e
   where
     go :
         (b : Bool) → eqb j.number n ≡ b →
-        (found_in n (suc k) js ≡ At i → (m : ℕ) × (i ≡ suc k + m) × FoundAt n m js) →
-        pick_found b (At k) (found_in n (suc k) js) ≡ At i → (m : ℕ) × (i ≡ k + m) × FoundAt n m (j ∷ js)
+        (found_in n (k + 1) js ≡ Some i → (m : ℕ) × (i ≡ k + 1 + m) × FoundAt n m js) →
+        cond b (Some k) (found_in n (k + 1) js) ≡ Some i → (m : ℕ) × (i ≡ k + m) × FoundAt n m (j ∷ js)
     go true t ih f =
         let same : k ≡ i = cc in
         (0, omega arith, record { inside = omega arith; number = eqb-true j.number n t; first = refl })
@@ -143,7 +144,7 @@ found_at n k i (j ∷ js) e = go (eqb j.number n) refl (found_at n (suc k) i js)
         )
 
 -- the same, counted from the first place
-pub found_first : (n i : ℕ) (js : List Job) → found_in n 0 js ≡ At i → FoundAt n i js
+pub found_first : (n i : ℕ) (js : List Job) → found_in n 0 js ≡ Some i → FoundAt n i js
 found_first n i js e =
     let r = found_at n 0 i js e in
     let same : r.0 ≡ i = omega (arith, r.1) in

@@ -2,17 +2,17 @@
 use mathlib.Core.Path.{◌≡◌, refl, sym, ap, subst, ◌∙◌}
 use lib.Dec.{eqb}
 use mathlib.Core.List.{List, [], ◌∷◌, ◌++◌, map}
-use Prim.Native.Nat.{ℕ, ◌+◌, ◌-◌, ◌≤◌, ◌<◌}
+use Prim.Native.Nat.{ℕ, zero, suc, ◌+◌, ◌-◌, ◌≤◌, ◌<◌}
 use native.Mathlib.Omega.{arith}
-use lib.ListN.{length, get_or, take, drop, set, length-append, length-set, length-map, length-drop}
-use lib.Seq.{length-take-le, get_or-take, get_or-set_same, paste}
+use lib.ListN.{length, get_or, take, drop, set, replicate, length-append, length-set, length-map, length-drop}
+use lib.Seq.{drop_at, length-take-le, get_or-take, get_or-set_same, paste}
 use Rattle.ticks.specs.declared.Instant.{Instant}
 use Rattle.ticks.specs.declared.Length.{Length}
 use Rattle.lists.specs.Lists.{Each, filled, bit}
-use Rattle.lists.proofs.Places.{filled_put, filled_of_unused, filled_without, length_without, take_filled, length_filled, filled_set, unused_of_filled, changed, changed_all, filled_changed_next}
+use Rattle.lists.proofs.Places.{filled_put, filled_of_unused, filled_without, length_without, take_filled, length_filled, filled_set, unused_of_filled, changed}
 use Rattle.jobs.specs.declared.Job.{Job}
 use Rattle.jobs.specs.declared.Table.{Table}
-use Rattle.jobs.specs.declared.Found.TheVariants.{At}
+use Rattle.std.specs.Prelude.{Some}
 use Rattle.jobs.specs.Jobs.{no_job, most_jobs, live, table_of, Tidy, times, found_in, FoundAt, JobIn, TableIn, JobsIn}
 use Rattle.jobs.specs.Served.{less_job, owing_less}
 use Rattle.jobs.specs.Figures.{owed_by, figured}
@@ -55,7 +55,7 @@ pub live_at : (t : Table) (i : ℕ) → i < t.count → get_or (live t) i no_job
 live_at t i h = get_or-take t.count t.jobs i no_job h
 
 -- a number that is found is found at a live job's place
-pub found_live : (t : Table) (n m : ℕ) → Tidy t → found_in n 0 (live t) ≡ At m → FoundAt n m (live t) × (m < t.count)
+pub found_live : (t : Table) (n m : ℕ) → Tidy t → found_in n 0 (live t) ≡ Some m → FoundAt n m (live t) × (m < t.count)
 found_live t n m k e =
     let f = found_first n m (live t) e in
     (f, omega (arith, f.inside, live_count t k))
@@ -101,22 +101,23 @@ one_changed t at j k h =
     λ i. record { count = count i; jobs = places i }
 
 -- job after job is another
-pub next_changed :
-    (t r : Table) (h : Job → Job) (i : ℕ) (j : Job) → Tidy t → r.jobs ≡ filled most_jobs no_job (changed h i (live t)) → i < t.count →
-    j ≡ h (get_or t.jobs i no_job) → set r.jobs i j ≡ filled most_jobs no_job (changed h (i + 1) (live t))
-next_changed t r h i j k e l n =
-    let many = live_count t k in
-    (λ s. set (e s) i ((n ∙ ap h (sym (live_at t i l))) s)) ∙ filled_changed_next most_jobs no_job h no_job (live t) i (omega arith)
+pub next_changed : (h : Job → Job) (i : ℕ) (js : List Job) → i < length js → set (changed h i js) i (h (get_or (changed h i js) i no_job)) ≡ changed h (i + 1) js
+next_changed h i [] l = absurd (omega arith)
+next_changed h zero (j ∷ js) l = refl
+next_changed h (suc i) (j ∷ js) l =
+    let e : suc i + 1 ≡ suc (i + 1) = omega arith in
+    rw e (ap (h j ∷◌) (next_changed h i js (omega arith)))
 
 -- each job is another
-pub all_changed :
-    (t r : Table) (h : Job → Job) (i : ℕ) → Tidy t → r.count ≡ t.count →
-    r.jobs ≡ filled most_jobs no_job (changed h i (live t)) → t.count ≤ i → r ≡ table_of (map h (live t))
-all_changed t r h i k c e l =
+pub all_changed : (t : Table) (h : Job → Job) (ks : List Job) → Tidy t → ks ≡ map h (live t)
+    → ◌≡◌ {A = Table} (record { count = t.count; jobs = ks ++ drop t.count t.jobs }) (table_of (map h (live t)))
+all_changed t h ks k e =
+    let js = live t in
     let many = live_count t k in
-    let count : r.count ≡ length (map h (live t)) = c ∙ sym many ∙ sym (length-map (live t) h) in
-    let places : r.jobs ≡ filled most_jobs no_job (map h (live t)) = e ∙ ap (filled most_jobs no_job) (changed_all h i (live t) (omega arith)) in
-    λ n. record { count = count n; jobs = places n }
+    let long : length (map h js) ≡ length js = length-map js h in
+    let rest : drop t.count t.jobs ≡ replicate (most_jobs - length (map h js)) no_job =
+    ap (λ s. drop t.count s.jobs) k.filled ∙ drop_at js (replicate (most_jobs - length js) no_job) t.count many ∙ ap (λ n. replicate (most_jobs - n) no_job) (sym long) in
+    λ i. record { count = (sym many ∙ sym long) i; jobs = e i ++ rest i }
 
 -- the table whose job at a place has so many ticks fewer to get
 module _ (t : Table) (k : Tidy t) (at m : ℕ) (h : at < t.count) where

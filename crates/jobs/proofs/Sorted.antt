@@ -3,10 +3,12 @@ use mathlib.Core.Path.{◌≡◌, refl, sym, ap, subst, ◌∙◌}
 use mathlib.Core.Logic.{inl, inr}
 use mathlib.Core.Bool.{Bool, true, false, cond, ◌&&◌}
 use mathlib.Core.List.{List, [], ◌∷◌, ◌++◌, map, map-id}
-use Prim.Native.Nat.{ℕ, suc, ◌+◌, ◌-◌, ◌≤◌}
+use Prim.Native.Nat.{ℕ, zero, suc, ◌+◌, ◌-◌, ◌≤◌, ◌<◌}
 use native.Mathlib.Omega.{arith}
 use lib.Dec.{ltb, eqb}
-use lib.ListN.{length, take, drop}
+use lib.ListN.{length, get_or, take, drop}
+use Rattle.std.specs.Prelude.{Some as Found, unwrap_or}
+use Rattle.std.specs.List.{position_from, IsAllAdjacentAnswer}
 use borrow.Author.Tests.{ltb-true, eq-eqb}
 use Rattle.lists.specs.Lists.{eq, bit, total, Each, Some, keep, SameElements}
 use Rattle.lists.proofs.Tests.{eq_refl, eq_is, eq_le, eqb_elim, ltb_elim, both, both_made, false_not_true}
@@ -80,20 +82,30 @@ sorted_rising [] s = refl
 sorted_rising (j ∷ []) s = refl
 sorted_rising (j ∷ k ∷ ks) s = both_made (before j k) (rising (k ∷ ks)) (before_made j k s.0.0) (sorted_rising (k ∷ ks) s.1)
 
-pub rising_past : (j k : Job) (ks : List Job) → before j k ≡ true → rising (j ∷ k ∷ ks) ≡ rising (k ∷ ks)
+-- asked of each two neighbours
+pub rising_asked : (js : List Job) (r : Bool) → IsAllAdjacentAnswer (λ j k b. b ≡ before j k) js r → r ≡ rising js
 unfolding rising
-rising_past j k ks e = ap (◌&& rising (k ∷ ks)) e
+rising_asked js true h = sym (all js h)
+  where
+    all : (js : List Job) → ((k : ℕ) (d : Job) → k + 1 < length js → true ≡ before (get_or js k d) (get_or js (k + 1) d)) → rising js ≡ true
+    all [] h = refl
+    all (j ∷ []) h = refl
+    all (j ∷ i ∷ is) h =
+        both_made (before j i) (rising (i ∷ is)) (sym (h 0 j (omega arith)))
+        (all (i ∷ is) (λ k d l. let e : suc k + 1 ≡ suc (k + 1) = omega arith in rw e at (h (suc k) d (omega arith))))
+rising_asked js false h = sym (some js h.0 h.1 h.2)
+  where
+    none : (b : Bool) → b && false ≡ false
+    none true = refl
+    none false = refl
 
-pub rising_stop : (j k : Job) (ks : List Job) → before j k ≡ false → rising (j ∷ k ∷ ks) ≡ false
-unfolding rising
-rising_stop j k ks e = ap (◌&& rising (k ∷ ks)) e
-
--- fewer than two have no neighbours
-pub rising_few : (js : List Job) → length js ≤ 1 → rising js ≡ true
-unfolding rising
-rising_few [] h = refl
-rising_few (j ∷ []) h = refl
-rising_few (j ∷ k ∷ ks) h = absurd (omega arith)
+    some : (js : List Job) (k : ℕ) → k + 1 < length js → ((d : Job) → false ≡ before (get_or js k d) (get_or js (k + 1) d)) → rising js ≡ false
+    some [] k l h = absurd (omega arith)
+    some (j ∷ []) k l h = absurd (omega arith)
+    some (j ∷ i ∷ is) zero l h = ap (◌&& rising (i ∷ is)) (sym (h j))
+    some (j ∷ i ∷ is) (suc k) l h =
+        let e : suc k + 1 ≡ suc (k + 1) = omega arith in
+        ap (before j i &&◌) (some (i ∷ is) k (omega arith) (λ d. rw e at (h d))) ∙ none (before j i)
 
 -- jobs are told apart by all that is stored of them
 is_job : Job → Job → ℕ
@@ -226,18 +238,18 @@ place_inside j (k ∷ ks) = go (before j k) (place_inside j ks)
     go true ih = omega arith
     go false ih = omega arith
 
--- the next job is one that it stands before, or not
-pub place_here : (j k : Job) (ks : List Job) → before j k ≡ true → place_of j (k ∷ ks) ≡ 0
+-- its place is that of the first job that it stands before, or behind the last
+pub place_found : (j : Job) (js : List Job) (k : ℕ) → unwrap_or (position_from (before j) k js) (k + length js) ≡ k + place_of j js
 unfolding place_of
-place_here j k ks e = ap (λ b. cond b 0 (suc (place_of j ks))) e
-
-pub place_past : (j k : Job) (ks : List Job) → before j k ≡ false → place_of j (k ∷ ks) ≡ suc (place_of j ks)
-unfolding place_of
-place_past j k ks e = ap (λ b. cond b 0 (suc (place_of j ks))) e
-
-pub place_none : (j : Job) → place_of j [] ≡ 0
-unfolding place_of
-place_none j = refl
+place_found j [] k = refl
+place_found j (x ∷ xs) k =
+    let one : k + suc (length xs) ≡ k + 1 + length xs = omega arith in
+    rw one (go (before j x) (place_found j xs (k + 1)))
+  where
+    go : (b : Bool) → unwrap_or (position_from (before j) (k + 1) xs) (k + 1 + length xs) ≡ k + 1 + place_of j xs
+        → unwrap_or (cond b (Found k) (position_from (before j) (k + 1) xs)) (k + 1 + length xs) ≡ k + cond b 0 (suc (place_of j xs))
+    go true ih = omega arith
+    go false ih = omega arith
 
 -- of things that are read as jobs: what leaves number and deadline as they are leaves the order, and so does leaving some out
 module _ {A : Type 0} where

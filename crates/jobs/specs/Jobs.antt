@@ -1,13 +1,12 @@
 -- The table of live jobs, and the test of jobs that any state is put to.
-use Rattle.std.specs.Prelude.{◌≡◌, Bool, true, false, not, ◌&&◌, List, [], ◌∷◌, ℕ, suc, ◌+◌, ◌≤◌, ◌<◌, leb, ltb, eqb, length, get_or, take, drop}
+use Rattle.std.specs.Prelude.{◌≡◌, Bool, true, not, ◌&&◌, List, [], ◌∷◌, ℕ, ◌+◌, ◌≤◌, ◌<◌, leb, ltb, eqb, length, get_or, take, drop, Option}
+use Rattle.std.specs.List.{position_from}
 use Rattle.ticks.specs.declared.Instant.{Instant}
 use Rattle.ticks.specs.declared.Length.{Length}
 use Rattle.ticks.specs.Ticks.{last_instant, most_job, within, job_length, owed_length, ticks_since, ticks, instant}
 use Rattle.lists.specs.Lists.{every, Each, total, bit, all_of, filled, keep}
 use Rattle.jobs.specs.declared.Job.{Job}
 use Rattle.jobs.specs.declared.Table.{Table}
-use Rattle.jobs.specs.declared.Found.{Found}
-use Rattle.jobs.specs.declared.Found.TheVariants.{At, Nothing}
 use Rattle.jobs.specs.Figures.{figure_agrees, Figured}
 use Rattle.jobs.specs.Sorted.{rising, Sorted}
 
@@ -40,14 +39,9 @@ pub record Tidy (t : Table) : Type 0 where
   pub few : t.count ≤ most_jobs
   pub filled : t ≡ table_of (live t)
 
-abbrev pub pick_found : Bool → Found → Found → Found
-pick_found true a b = a
-pick_found false a b = b
-
 -- the first of these jobs that has the number, where the first of them stands at the place k
-unfoldable pub found_in : ℕ → ℕ → List Job → Found
-found_in n k [] = Nothing
-found_in n k (j ∷ js) = pick_found (eqb j.number n) (At k) (found_in n (suc k) js)
+abbrev pub found_in : ℕ → ℕ → List Job → Option ℕ
+found_in n k js = position_from (λ j. eqb j.number n) k js
 
 -- none of these jobs has the number
 unfoldable pub lacks : ℕ → List Job → Bool

@@ -17,7 +17,7 @@ use ticks::{Instant, Length};
 
 // A customer's export that was promised: it still owes `owed` ticks before the deadline.
 #[repr(C)]
-#[derive(Clone, Copy)]
+#[derive(Clone, Copy, PartialEq, Eq)]
 pub struct Job {
     pub number: u32,
     pub owed: Length,
@@ -33,13 +33,6 @@ pub struct Job {
 pub struct Table {
     pub count: usize,
     pub jobs: [Job; Job::MOST],
-}
-
-// The place of a live job.
-#[derive(Clone, Copy)]
-pub enum Found {
-    At(usize),
-    Nothing,
 }
 
 impl Job {
@@ -88,42 +81,42 @@ impl Job {
     }
 
     // It counts from its deadline on.
+    #[tactic(auto, unfolding(crate::specs::Figures::owes_by))]
     pub fn owes_by(self, by: Instant) -> Length
         ensures { result ≡ ticks (owes_by by.0 self) }
     {
-        if self.deadline.is_after(by) {
-            return Length::NONE;
+        if self.deadline <= by {
+            self.owed
+        } else {
+            Length::NONE
         }
-        self.owed
     }
 
     // The earlier deadline first, then the lower number.
+    #[tactic(auto, unfolding(crate::specs::Sorted::before))]
     fn before(self, other: Job) -> bool
         ensures { result ≡ before self other }
     {
-        if self.deadline.0 == other.deadline.0 {
-            return self.number < other.number;
-        }
-        self.deadline.0 < other.deadline.0
+        (self.deadline, self.number) < (other.deadline, other.number)
     }
 
     // This job's figure beside that of the job after it, or where that one is due later beside what has been added up with this
     // one.
-    fn agrees(self, after: Job, sum: u64) -> bool
-        ensures { result ≡ agrees_beside self after sum }
+    #[tactic(auto, unfolding(crate::specs::Figures::agrees_beside))]
+    fn agrees(self, after: Job, sum: Length) -> bool
+        ensures { result ≡ agrees_beside self after sum.0 }
     {
-        if self.deadline.0 == after.deadline.0 {
-            return self.figure.0 == after.figure.0;
+        if self.deadline == after.deadline {
+            self.figure == after.figure
+        } else {
+            self.figure == sum
         }
-        self.figure.0 == sum
     }
 
     fn showing(self, figure: Length) -> Job
         ensures { result ≡ showing figure.0 self }
     {
-        let mut job = self;
-        job.figure = figure;
-        job
+        Job { figure, ..self }
     }
 
     // Another job is there too: this one shows it if it is due no later.
@@ -143,44 +136,29 @@ impl Job {
     }
 
     // A live job that is in order at this instant, under this charge.
+    #[tactic(auto, unfolding(crate::specs::Jobs::job_in, lists::specs::Lists::all_of))]
     pub fn within(self, charge: Length, clock: Instant) -> bool
         requires { charge.0 ≤ most_charge }
         ensures { result ≡ job_in charge clock self }
     {
-        if self.number < Job::LOWEST {
-            return false;
-        }
-        if !self.owed.suits_owed(charge) {
-            return false;
-        }
-        if !self.deadline.is_after(clock) {
-            return false;
-        }
-        if !self.deadline.ticks_since(clock).suits_job() {
-            return false;
-        }
-        self.deadline.within()
+        Job::LOWEST <= self.number
+            && self.owed.suits_owed(charge)
+            && clock < self.deadline
+            && self.deadline.ticks_since(clock).suits_job()
+            && self.deadline.within()
     }
 
+    #[tactic(auto, unfolding(crate::specs::Jobs::unused_job, lists::specs::Lists::all_of))]
     pub fn is_none(self) -> bool
         ensures { result ≡ unused_job self }
     {
-        if self.number != 0 {
-            return false;
-        }
-        if !self.owed.is_none() {
-            return false;
-        }
-        if !self.deadline.is_first() {
-            return false;
-        }
-        self.figure.is_none()
+        self == Job::NONE
     }
 }
 
 impl Table {
     // As many marks as a byte has values.
-    const MARKS: u32 = 256;
+    const MARKS: usize = 256;
 
     pub fn none() -> Table
         ensures { result ≡ table_of [] }
@@ -195,13 +173,9 @@ impl Table {
         requires { (self.count ≤ most_jobs) × (charge.0 ≤ most_charge) }
         ensures { result ≡ every (job_in charge clock) (live self) }
     {
-        let count = self.count;
-        for i in 0..count {
-            if !self.jobs[i].within(charge, clock) {
-                return false;
-            }
-        }
-        true
+        self.jobs[..self.count]
+            .iter()
+            .all(|job| job.within(charge, clock))
     }
 
     // The places after the live jobs are all zero.
@@ -209,27 +183,17 @@ impl Table {
         requires { self.count ≤ most_jobs }
         ensures { result ≡ every unused_job (drop self.count self.jobs) }
     {
-        let count = self.count;
-        for i in count..Job::MOST {
-            if !self.jobs[i].is_none() {
-                return false;
-            }
-        }
-        true
+        self.jobs[self.count..].iter().all(|job| job.is_none())
     }
 
     // The place of the live job with this number.
-    pub fn find(self, number: u32) -> Found
+    pub fn find(self, number: u32) -> Option<usize>
         requires { self.count ≤ most_jobs }
         ensures { result ≡ found_in number 0 (live self) }
     {
-        let count = self.count;
-        for i in 0..count {
-            if self.jobs[i].number == number {
-                return Found::At(i);
-            }
-        }
-        Found::Nothing
+        self.jobs[..self.count]
+            .iter()
+            .position(|job| job.number == number)
     }
 
     // Whether a live job has this number.
@@ -237,10 +201,9 @@ impl Table {
         requires { self.count ≤ most_jobs }
         ensures { result ≡ not (lacks number (live self)) }
     {
-        match self.find(number) {
-            Found::At(_) => true,
-            Found::Nothing => false,
-        }
+        self.jobs[..self.count]
+            .iter()
+            .any(|job| job.number == number)
     }
 
     // A mark for each number by its lowest byte, set as the jobs are passed: where none is set already, no number stands twice.
@@ -248,14 +211,13 @@ impl Table {
         requires { self.count ≤ most_jobs }
         ensures { result ≡ true → distinct (live self) ≡ true }
     {
-        let count = self.count;
-        let mut marks = [0u8; Table::MARKS as usize];
-        for i in 0..count {
-            let mark = (self.jobs[i].number % Table::MARKS) as usize;
-            if marks[mark] == 1 {
+        let mut marks = [false; Table::MARKS];
+        for job in &self.jobs[..self.count] {
+            let mark = job.number as usize % Table::MARKS;
+            if marks[mark] {
                 return false;
             }
-            marks[mark] = 1;
+            marks[mark] = true;
         }
         true
     }
@@ -266,14 +228,12 @@ impl Table {
         requires { self.count ≤ most_jobs }
         ensures { result ≡ distinct (live self) }
     {
-        let count = self.count;
-        for i in 0..count {
-            let number = self.jobs[i].number;
-            for k in i + 1..count {
-                if self.jobs[k].number == number {
-                    return false;
-                }
+        let mut live = &self.jobs[..self.count];
+        while let [job, behind @ ..] = live {
+            if behind.iter().any(|other| other.number == job.number) {
+                return false;
             }
+            live = behind;
         }
         true
     }
@@ -283,10 +243,7 @@ impl Table {
         requires { self.count ≤ most_jobs }
         ensures { result ≡ distinct (live self) }
     {
-        if self.no_mark_twice() {
-            return true;
-        }
-        self.numbers_differ()
+        self.no_mark_twice() || self.numbers_differ()
     }
 
     // Each job stands before the next.
@@ -294,13 +251,7 @@ impl Table {
         requires { self.count ≤ most_jobs }
         ensures { result ≡ rising (live self) }
     {
-        let count = self.count;
-        for i in 1..count {
-            if !self.jobs[i - 1].before(self.jobs[i]) {
-                return false;
-            }
-        }
-        true
+        self.jobs[..self.count].is_sorted_by(|job, next| job.before(*next))
     }
 
     // Each figure is the sum done afresh, in one pass: those due together show the same, and the last of them all that has been
@@ -309,18 +260,16 @@ impl Table {
         requires { (self.count ≤ most_jobs) × Each Modest (live self) × Each (λ j. 0 < j.deadline.0) (live self) × Sorted (live self) }
         ensures { result ≡ every (figure_agrees (live self)) (live self) }
     {
-        let count = self.count;
-        let mut sum = 0;
+        let mut sum = Length::NONE;
         let mut last = Job::NONE;
-        for i in 0..count {
-            let job = self.jobs[i];
-            if !last.agrees(job, sum) {
+        for job in &self.jobs[..self.count] {
+            if !last.agrees(*job, sum) {
                 return false;
             }
-            sum += job.owed.0;
-            last = job;
+            sum = sum.and(job.owed);
+            last = *job;
         }
-        last.figure.0 == sum
+        last.figure == sum
     }
 
     // What the live jobs due by an instant still owe together: what the last of them shows.
@@ -328,39 +277,26 @@ impl Table {
         requires { (self.count ≤ most_jobs) × Sorted (live self) × Figured (live self) }
         ensures { result ≡ ticks (owed_by by.0 (live self)) }
     {
-        let mut left = self.count;
-        while 0 < left {
-            left = left - 1;
-            let job = self.jobs[left];
-            if !job.deadline.is_after(by) {
-                return job.figure;
-            }
-        }
-        Length::NONE
+        self.jobs[..self.count]
+            .iter()
+            .rev()
+            .find(|job| job.deadline <= by)
+            .map_or(Length::NONE, |job| job.figure)
     }
 
     // Whether any table that is handed in is in order at this instant, under this charge. What each job owes is bounded
     // before anything is added up.
+    #[tactic(auto, using(crate::proofs::Limits::ready_to_add_up), unfolding(crate::specs::Jobs::table_in, lists::specs::Lists::all_of))]
     pub fn in_order(self, charge: Length, clock: Instant) -> bool
         requires { charge.0 ≤ most_charge }
         ensures { result ≡ table_in charge clock self }
     {
-        if Job::MOST < self.count {
-            return false;
-        }
-        if !self.all_within(charge, clock) {
-            return false;
-        }
-        if !self.no_number_twice() {
-            return false;
-        }
-        if !self.rising() {
-            return false;
-        }
-        if !self.figures_agree() {
-            return false;
-        }
-        self.rest_unused()
+        self.count <= Job::MOST
+            && self.all_within(charge, clock)
+            && self.no_number_twice()
+            && self.rising()
+            && self.figures_agree()
+            && self.rest_unused()
     }
 
     // Those due no earlier than a job show it too.
@@ -368,13 +304,11 @@ impl Table {
         requires { Tidy self × Each (λ j. j.figure.0 + owes_by j.deadline.0 job < 2 ^ 64) (live self) }
         ensures { result ≡ table_of (map (raised job) (live self)) }
     {
-        let count = self.count;
-        let mut table = self;
-        for i in 0..count {
-            let other = self.jobs[i].raised(job);
-            table.jobs[i] = other;
+        let mut jobs = self.jobs;
+        for other in &mut jobs[..self.count] {
+            *other = other.raised(job);
         }
-        table
+        Table { jobs, ..self }
     }
 
     // Those due no earlier than a job show it no more.
@@ -382,13 +316,11 @@ impl Table {
         requires { Tidy self × Each (λ j. owes_by j.deadline.0 job ≤ j.figure.0) (live self) }
         ensures { result ≡ table_of (map (lowered job) (live self)) }
     {
-        let count = self.count;
-        let mut table = self;
-        for i in 0..count {
-            let other = self.jobs[i].lowered(job);
-            table.jobs[i] = other;
+        let mut jobs = self.jobs;
+        for other in &mut jobs[..self.count] {
+            *other = other.lowered(job);
         }
-        table
+        Table { jobs, ..self }
     }
 
     // Where a job has its place: before the first that it stands before.
@@ -396,13 +328,10 @@ impl Table {
         requires { self.count ≤ most_jobs }
         ensures { result ≡ place_of job (live self) }
     {
-        let count = self.count;
-        for i in 0..count {
-            if job.before(self.jobs[i]) {
-                return i;
-            }
-        }
-        count
+        self.jobs[..self.count]
+            .iter()
+            .position(|other| job.before(*other))
+            .unwrap_or(self.count)
     }
 
     // One more job at a place; those from there on move up. No figure changes.
@@ -410,15 +339,10 @@ impl Table {
         requires { Tidy self × (self.count < most_jobs) × (at ≤ self.count) }
         ensures { result ≡ table_of (take at (live self) ++ (job ∷ drop at (live self))) }
     {
-        let count = self.count;
-        let behind = count - at;
         let mut table = self;
-        for i in 0..behind {
-            let other = self.jobs[at + i];
-            table.jobs[at + i + 1] = other;
-        }
+        table.jobs.copy_within(at..self.count, at + 1);
         table.jobs[at] = job;
-        table.count = count + 1;
+        table.count = self.count + 1;
         table
     }
 
@@ -438,12 +362,8 @@ impl Table {
         ensures { result ≡ table_of (take at (live self) ++ drop (at + 1) (live self)) }
     {
         let last = self.count - 1;
-        let behind = last - at;
         let mut table = self;
-        for i in 0..behind {
-            let job = self.jobs[at + i + 1];
-            table.jobs[at + i] = job;
-        }
+        table.jobs.copy_within(at + 1..self.count, at);
         table.jobs[last] = Job::NONE;
         table.count = last;
         table
@@ -456,9 +376,7 @@ impl Table {
     {
         let job = self.jobs[at];
         let mut table = self.lowered(Job::of(job.number, by, job.deadline));
-        let mut left = table.jobs[at];
-        left.owed = job.owed.less(by);
-        table.jobs[at] = left;
+        table.jobs[at].owed = job.owed.less(by);
         table
     }
 
@@ -468,11 +386,8 @@ impl Table {
         ensures { result ≡ table_of (figured (others number (live self))) }
     {
         match self.find(number) {
-            Found::At(at) => {
-                let job = self.jobs[at];
-                self.owing_less(at, job.owed).without(at)
-            }
-            Found::Nothing => self,
+            Some(at) => self.owing_less(at, self.jobs[at].owed).without(at),
+            None => self,
         }
     }
 
@@ -482,15 +397,15 @@ impl Table {
         ensures { result ≡ table_of (figured (served number (live self))) }
     {
         match self.find(number) {
-            Found::At(at) => {
+            Some(at) => {
                 let table = self.owing_less(at, Length::of(1));
-                let job = table.jobs[at];
-                if job.owed.is_none() {
-                    return table.without(at);
+                if table.jobs[at].owed == Length::NONE {
+                    table.without(at)
+                } else {
+                    table
                 }
-                table
             }
-            Found::Nothing => self,
+            None => self,
         }
     }
 }

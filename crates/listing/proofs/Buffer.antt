@@ -1,26 +1,14 @@
 -- How the buffer fills with the list.
 use mathlib.Core.Path.{◌≡◌, refl, sym, ap, ◌∙◌}
 use mathlib.Core.List.{List, [], ◌∷◌, ◌++◌, append_assoc}
-use Prim.Native.Nat.{ℕ, suc, ◌+◌, ◌*◌, ◌-◌, ◌≤◌, ◌<◌}
+use Prim.Native.Nat.{ℕ, ◌+◌, ◌*◌, ◌≤◌, ◌<◌}
 use native.Mathlib.Omega.{arith}
-use lib.ListN.{length, get_or, take, drop, set, length-append, length-drop}
+use lib.ListN.{length, get_or, take, drop}
 use native.Mathlib.Numerals.{add-one}
-use lib.Seq.{take_at, take-suc, take_all, drop-drop, drop_at, sets-eq, length-take-le}
+use lib.Seq.{take_at, take-suc, drop-drop, drop_at, length-take-le}
 use Rattle.jobs.specs.declared.Job.{Job}
 use Rattle.jobs.specs.Jobs.{numbers_a_job, no_job}
 use Rattle.listing.specs.Words.{words_of, words}
-
--- four numbers are written one after the other
-pub put_four :
-    (l : List ℕ) (at a b c d : ℕ) → at + numbers_a_job ≤ length l →
-    set (set (set (set l at a) (at + 1) b) (at + 2) c) (at + 3) d ≡ take at l ++ ((a ∷ b ∷ c ∷ d ∷ []) ++ drop (at + numbers_a_job) l)
-put_four l at a b c d h =
-    let one : at + 1 ≡ suc at = omega arith in
-    let two : at + 2 ≡ suc (suc at) = omega arith in
-    let three : at + 3 ≡ suc (suc (suc at)) = omega arith in
-    (λ i. set (set (set (set l at a) (one i) b) (two i) c) (three i) d)
-    ∙ sets-eq (a ∷ b ∷ c ∷ d ∷ []) l at h
-    ∙ append_assoc (take at l) (a ∷ b ∷ c ∷ d ∷ []) (drop (at + numbers_a_job) l)
 
 words_append : (xs ys : List Job) → words (xs ++ ys) ≡ words xs ++ words ys
 words_append [] ys = refl
@@ -37,12 +25,6 @@ written js was i = words (take i js) ++ drop (numbers_a_job * i) was
 module _ (js : List Job) (was is : List ℕ) (i : ℕ) (w : is ≡ written js was i) where
   words_taken : i ≤ length js → length (words (take i js)) ≡ numbers_a_job * i
   words_taken h = words_length (take i js) ∙ ap (λ n. numbers_a_job * n) (length-take-le i js h)
-
-  pub written_length : i ≤ length js → numbers_a_job * i ≤ length was → length is ≡ length was
-  written_length h l =
-      let a = words_taken h in
-      let b : length (drop (numbers_a_job * i) was) ≡ length was - numbers_a_job * i = length-drop (numbers_a_job * i) was in
-      ap length w ∙ length-append (words (take i js)) (drop (numbers_a_job * i) was) ∙ omega arith
 
   -- one more is written behind them
   pub written_more : i < length js
@@ -62,7 +44,3 @@ module _ (js : List Job) (was is : List ℕ) (i : ℕ) (w : is ≡ written js wa
       (λ t. front t ++ (words_of j ++ back t))
       ∙ sym (append_assoc (words (take i js)) (words_of j) (drop (numbers_a_job * (i + 1)) was))
       ∙ ap (λ r. r ++ drop (numbers_a_job * (i + 1)) was) (sym (words_append (take i js) (j ∷ [])) ∙ ap words (sym more))
-
-  -- all are written
-  pub written_all : length js ≤ i → is ≡ words js ++ drop (numbers_a_job * i) was
-  written_all h = w ∙ ap (λ l. words l ++ drop (numbers_a_job * i) was) (take_all i js h)

@@ -7,6 +7,7 @@ use Rattle.jobs.specs.Jobs.{job}
 use Rattle.jobs.specs.Figures.{owes_by, figured}
 use Rattle.jobs.specs.Sorted.{before, insert, sorted}
 use Rattle.answers.specs.declared.Who.TheVariants.{Job, Feed, Idle}
+use Rattle.listing.specs.declared.Lent.TheVariants.{Jobs, Feeds}
 use Rattle.listing.specs.Words.{words}
 use Rattle.listing.specs.Labels.{record_from, label_of, place, nowhere}
 
@@ -29,7 +30,7 @@ job_labels = 0 ∷ 0 ∷ 0 ∷ 1 ∷ text 65 ++ (0 ∷ 0 ∷ 1 ∷ 2 ∷ text 66
 feed_labels : List ℕ
 feed_labels = text 97 ++ (98 ∷ [])
 
-first_of_two_lem : label_of (Job 258) job_labels feed_labels ≡ place 1 16 8
+first_of_two_lem : label_of (Job 258) job_labels feed_labels ≡ place Jobs 16 8
 unfolding record_from job_labels text
 first_of_two_lem = refl
 
@@ -37,7 +38,7 @@ not_whole : label_of (Job 3) job_labels feed_labels ≡ nowhere
 unfolding record_from job_labels text
 not_whole = refl
 
-first_position : label_of (Feed 1) job_labels feed_labels ≡ place 2 0 8
+first_position : label_of (Feed 1) job_labels feed_labels ≡ place Feeds 0 8
 unfolding feed_labels text
 first_position = refl
 

@@ -10,22 +10,25 @@ ghost use Rattle.listing.specs.Labels.{big_endian, record_of, job_place, feed_pl
 use answers::Who;
 use jobs::{Job, Table};
 
-// A part of one of the two lent lists: 1 the job labels, 2 the feed labels; where it begins, and how many bytes it has.
-#[repr(C)]
+// One of the two lent lists.
+#[derive(Clone, Copy)]
+pub enum Lent {
+    Jobs,
+    Feeds,
+}
+
+// A part of one of the two lent lists: where it begins, and how many bytes it has.
 #[derive(Clone, Copy)]
 pub struct Part {
-    pub list: u32,
+    pub list: Lent,
     pub from: usize,
     pub size: usize,
 }
 
 impl Part {
-    pub const JOBS: u32 = 1;
-
-    pub const FEEDS: u32 = 2;
-    // No label: the empty beginning of the first list.
+    // No label: the empty beginning of the job labels.
     pub const NOWHERE: Part = Part {
-        list: Part::JOBS,
+        list: Lent::Jobs,
         from: 0,
         size: 0,
     };
@@ -43,10 +46,13 @@ fn put(buffer: &mut [u64], at: usize, job: Job)
     requires { at + numbers_a_job ≤ length buffer.old }
     ensures { buffer.new ≡ take at buffer.old ++ (words_of job ++ drop (at + numbers_a_job) buffer.old) }
 {
-    buffer[at] = job.number as u64;
-    buffer[at + 1] = job.owed.0;
-    buffer[at + 2] = job.deadline.0;
-    buffer[at + 3] = job.figure.0;
+    let numbers = [
+        u64::from(job.number),
+        job.owed.0,
+        job.deadline.0,
+        job.figure.0,
+    ];
+    buffer[at..at + Job::NUMBERS].copy_from_slice(&numbers);
 }
 
 // The live jobs into the front of the buffer, as they stand in the table; the rest of it is untouched.
@@ -54,65 +60,48 @@ pub fn list(table: Table, buffer: &mut [u64]) -> usize
     requires { Tidy table × (numbers_a_job * table.count ≤ length buffer.old) }
     ensures { (result ≡ length (live table)) × (buffer.new ≡ words (live table) ++ drop (numbers_a_job * table.count) buffer.old) }
 {
-    let count = table.count;
-    for i in 0..count {
-        let job = table.jobs[i];
-        put(buffer, Job::NUMBERS * i, job);
+    for (i, job) in table.jobs[..table.count].iter().enumerate() {
+        put(buffer, Job::NUMBERS * i, *job);
     }
-    count
+    table.count
 }
 
-// A byte, with room to add up.
-fn wide(byte: u8) -> u64
-    ensures { (result ≡ byte) × (result < 256) }
+// The number of a record.
+fn number_of(bytes: &[u8; RECORD]) -> u32
+    ensures { result ≡ big_endian bytes.now 0 }
 {
-    byte as u64
-}
-
-// The number in four bytes, the highest first.
-fn big_endian(labels: &[u8], at: usize) -> u64
-    requires { at + 4 ≤ length labels.now }
-    ensures { result ≡ big_endian labels.now at }
-{
-    let first = wide(labels[at]);
-    let second = wide(labels[at + 1]);
-    let third = wide(labels[at + 2]);
-    let fourth = wide(labels[at + 3]);
-    ((first * 256 + second) * 256 + third) * 256 + fourth
+    u32::from_be_bytes([bytes[0], bytes[1], bytes[2], bytes[3]])
 }
 
 // The label of the first whole record with this number stands behind the number.
 fn job_place(number: u32, labels: &[u8]) -> Part
     ensures { result ≡ job_place (record_of labels.now number) }
 {
-    let whole = labels.len() / RECORD;
-    for k in 0..whole {
-        let at = RECORD * k;
-        if big_endian(labels, at) == number as u64 {
-            return Part {
-                list: Part::JOBS,
-                from: at + NUMBER,
-                size: LABEL,
-            };
-        }
+    let (records, _) = labels.as_chunks::<RECORD>();
+    let found = records
+        .iter()
+        .position(|record| number_of(record) == number);
+    match found {
+        Some(k) => Part {
+            list: Lent::Jobs,
+            from: RECORD * k + NUMBER,
+            size: LABEL,
+        },
+        None => Part::NOWHERE,
     }
-    Part::NOWHERE
 }
 
 // The place of a position's label in so many bytes.
 fn feed_place(position: u32, long: usize) -> Part
     ensures { result ≡ feed_place position long }
 {
-    if position == 0 {
-        return Part::NOWHERE;
-    }
-    let from = LABEL * (position as usize - 1);
-    if long < from + LABEL {
+    let end = LABEL * position as usize;
+    if position == 0 || long < end {
         return Part::NOWHERE;
     }
     Part {
-        list: Part::FEEDS,
-        from,
+        list: Lent::Feeds,
+        from: end - LABEL,
         size: LABEL,
     }
 }
@@ -132,11 +121,10 @@ pub fn place(runner: Who, job_labels: &[u8], feed_labels: &[u8]) -> Part
 pub fn label<'a>(runner: Who, job_labels: &'a [u8], feed_labels: &'a [u8]) -> &'a [u8]
     ensures { PartAt (label_of runner job_labels.now feed_labels.now) job_labels.entry feed_labels.entry result }
 {
-    let part = place(runner, job_labels, feed_labels);
-    let from = part.from;
-    let end = from + part.size;
-    if part.list == Part::JOBS {
-        return &job_labels[from..end];
-    }
-    &feed_labels[from..end]
+    let Part { list, from, size } = place(runner, job_labels, feed_labels);
+    let labels = match list {
+        Lent::Jobs => job_labels,
+        Lent::Feeds => feed_labels,
+    };
+    &labels[from..from + size]
 }

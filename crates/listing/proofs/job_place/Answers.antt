@@ -1,40 +1,30 @@
--- `listing::job_place` meets its contract: the record is found exactly where it is found among those still to look at.
-use mathlib.Core.Path.{◌≡◌, sym, ap, ◌∙◌}
-use Prim.Native.Nat.{◌+◌, ◌-◌, ◌/◌, suc}
-use native.Mathlib.Numerals.{add-one}
-use native.Mathlib.Omega.{arith}
-use lib.ListN.{length}
-use Rattle.listing.specs.Labels.{record_bytes, record_from, job_place}
-use Rattle.listing.proofs.Labels.{record_here, record_past, record_none}
+-- `listing::job_place` meets its contract: what `position` says of the records is the first that has the number.
+use mathlib.Core.Path.{sym, ap, ◌∙◌}
+use borrow.Author.Rules.{rules}
+use borrow.Author.Tests.{tests}
+use Prim.Native.Nat.{ℕ}
+use mathlib.Core.List.{List}
+use lib.Dec.{eqb}
+use Rattle.std.specs.Simd.{first_chunks}
+use Rattle.std.proofs.lemmas.Iterator.{YieldsList-from_slice}
+use Rattle.std.proofs.lemmas.Iterator.Adapters.{position_from-zero}
+use Rattle.std.proofs.lemmas.Iterator.Search.{position_from_yields_List}
+use Rattle.listing.specs.Labels.{big_endian, record_bytes, whole, job_place}
+use Rattle.listing.proofs.Labels.{record_chunks}
 use Rattle.listing.proofs.job_place.Goals as goal
 
-pub returns-then-big_endian-number : goal.returns-then-big_endian-number
-returns-then-big_endian-number c =
+pub returns-in-Some : goal.returns-in-Some
+returns-in-Some c =
     let s = c.args.labels.now in
-    let n = c.args.number in
-    let k = c.loop-k.k in
-    let one : length s / record_bytes - k ≡ suc (length s / record_bytes - (k + 1)) = omega arith in
-    sym
-    (ap job_place
-    (c.loop-k.invariant
-    ∙ ap (λ m. record_from m s n k) one
-    ∙ record_here _ s n k (sym c.big_endian.ensures ∙ c.if-big_endian-number.true)))
+    let p = λ (r : List ℕ). eqb (big_endian r 0) c.args.number in
+    let records = first_chunks record_bytes (whole s) s in
+    let said = position_from_yields_List p _ _ c.position-found.result c.position-found.ensures.ran (YieldsList-from_slice records (c.iter.ensures.rest ∙ c.as_chunks.ensures.front)) (λ x b q k. search (rules, tests)) in
+    sym (ap job_place (record_chunks (whole s) s c.args.number 0 ∙ sym (said ∙ position_from-zero p records) ∙ c.in-Some.is))
 
-pub loop-k-preserved : goal.loop-k-preserved
-loop-k-preserved c =
+pub returns-in-None : goal.returns-in-None
+returns-in-None c =
     let s = c.args.labels.now in
-    let n = c.args.number in
-    let k = c.loop-k.k in
-    let one : length s / record_bytes - k ≡ suc (length s / record_bytes - (k + 1)) = omega arith in
-    c.loop-k.invariant
-    ∙ ap (λ m. record_from m s n k) one
-    ∙ record_past _ s n k (λ e. c.if-big_endian-number.false (c.big_endian.ensures ∙ e))
-    ∙ ap (record_from (length s / record_bytes - (k + 1)) s n) (sym (add-one k))
-
-pub returns : goal.returns
-returns c =
-    let s = c.args.labels.now in
-    let n = c.args.number in
-    let k = c.loop-k.k in
-    let none : length s / record_bytes - k ≡ 0 = omega arith in
-    sym (ap job_place (c.loop-k.invariant ∙ ap (λ m. record_from m s n k) none ∙ record_none s n k))
+    let p = λ (r : List ℕ). eqb (big_endian r 0) c.args.number in
+    let records = first_chunks record_bytes (whole s) s in
+    let said = position_from_yields_List p _ _ c.position-found.result c.position-found.ensures.ran (YieldsList-from_slice records (c.iter.ensures.rest ∙ c.as_chunks.ensures.front)) (λ x b q k. search (rules, tests)) in
+    sym (ap job_place (record_chunks (whole s) s c.args.number 0 ∙ sym (said ∙ position_from-zero p records) ∙ c.in-None.is))

@@ -19,9 +19,9 @@ offset_bounds-self-at c =
     let table : Table =
     c.args.self in
     let at : ℕ =
-    c.in-At.at in
+    c.in-Some.at in
     let found : FoundAt c.args.number at (live table) × (at < table.count) =
-    found_live table _ _ c.requires.0 (sym c.find.ensures ∙ c.in-At.is) in
+    found_live table _ _ c.requires.0 (sym c.find.ensures ∙ c.in-Some.is) in
     omega (arith, found.1, c.requires.0.few)
 
 pub bounds-self-at : goal.bounds-self-at
@@ -29,9 +29,9 @@ bounds-self-at c =
     let table : Table =
     c.args.self in
     let at : ℕ =
-    c.in-At.at in
+    c.in-Some.at in
     let found : FoundAt c.args.number at (live table) × (at < table.count) =
-    found_live table _ _ c.requires.0 (sym c.find.ensures ∙ c.in-At.is) in
+    found_live table _ _ c.requires.0 (sym c.find.ensures ∙ c.in-Some.is) in
     omega (arith, found.1, c.requires.0.few)
 
 pub owing_less-requires : goal.owing_less-requires
@@ -39,9 +39,9 @@ owing_less-requires c =
     let table : Table =
     c.args.self in
     let at : ℕ =
-    c.in-At.at in
+    c.in-Some.at in
     let found : FoundAt c.args.number at (live table) × (at < table.count) =
-    found_live table _ _ c.requires.0 (sym c.find.ensures ∙ c.in-At.is) in
+    found_live table _ _ c.requires.0 (sym c.find.ensures ∙ c.in-Some.is) in
     let owed : (get_or (live table) at no_job).owed.0 ≡ (get_or table.jobs at no_job).owed.0 =
     ap (λ j. j.owed.0) (live_at table at found.1) in
     (c.requires.0, found.1, c.requires.1, omega (arith, owed))
@@ -51,19 +51,19 @@ without-requires c =
     let table : Table =
     c.args.self in
     let at : ℕ =
-    c.in-At.at in
+    c.in-Some.at in
     let found : FoundAt c.args.number at (live table) × (at < table.count) =
-    found_live table _ _ c.requires.0 (sym c.find.ensures ∙ c.in-At.is) in
+    found_live table _ _ c.requires.0 (sym c.find.ensures ∙ c.in-Some.is) in
     rw c.owing_less.ensures (less_tidy table c.requires.0 at _ found.1, omega (arith, less_count table c.requires.0 at (get_or table.jobs at no_job).owed.0 found.1, found.1))
 
-pub returns-in-At : goal.returns-in-At
-returns-in-At c =
+pub returns-in-Some : goal.returns-in-Some
+returns-in-Some c =
     let table : Table =
     c.args.self in
     let at : ℕ =
-    c.in-At.at in
+    c.in-Some.at in
     let found : FoundAt c.args.number at (live table) × (at < table.count) =
-    found_live table _ _ c.requires.0 (sym c.find.ensures ∙ c.in-At.is) in
+    found_live table _ _ c.requires.0 (sym c.find.ensures ∙ c.in-Some.is) in
     let owed : (get_or (live table) at no_job).owed.0 ≡ (get_or table.jobs at no_job).owed.0 =
     ap (λ j. j.owed.0) (live_at table at found.1) in
     let js = live table in
@@ -73,8 +73,8 @@ returns-in-At c =
     ∙ ap (λ n. table_of (figured (take at js ++ drop n js))) (add-one at)
     ∙ ap (λ l. table_of (figured l)) (without_others _ at js (c.requires.2 _) found.0)
 
-pub returns-in-Nothing : goal.returns-in-Nothing
-returns-in-Nothing c =
+pub returns-in-None : goal.returns-in-None
+returns-in-None c =
     let js = live c.args.self in
-    let none = found_nothing _ _ js (sym c.find.ensures ∙ c.in-Nothing.is) in
+    let none = found_nothing _ _ js (sym c.find.ensures ∙ c.in-None.is) in
     c.requires.0.filled ∙ ap table_of (sym (ap figured (others_all _ js none) ∙ figured_own js c.requires.1))

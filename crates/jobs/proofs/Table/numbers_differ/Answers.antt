@@ -1,54 +1,38 @@
--- `jobs::Table::numbers_differ` meets its contract: no number stands twice exactly if none does among the jobs still to
--- look at, and a job's number stands behind it exactly if it stands among those behind it still to look at.
-use mathlib.Core.Path.{◌≡◌, sym, ap, ◌∙◌}
-use mathlib.Core.Bool.{not}
-use mathlib.Core.List.{◌∷◌}
-use Prim.Native.Nat.{◌+◌}
+-- `jobs::Table::numbers_differ` meets its contract: no number stands twice exactly if none does among the jobs still to look at.
+use mathlib.Core.Path.{sym, ap, ◌∙◌}
+use Prim.Native.Nat.{◌-◌}
 use native.Mathlib.Omega.{arith}
 use borrow.Author.Rules.{rules}
-use borrow.Author.Tests.{eq-eqb, ne_eqb}
-use lib.ListN.{length, get_or, drop}
-use Rattle.lists.proofs.Places.{length_mapped, next_live, no_more_live, every_fails, every_goes_on, every_passes}
-use Rattle.jobs.specs.Jobs.{live, no_job, distinct, lacks}
-use Rattle.jobs.proofs.Numbers.{distinct_none, distinct_past, distinct_stop}
+use borrow.Author.Tests.{tests}
+use lib.Dec.{eqb}
+use lib.ListN.{length, get_or, drop, length-drop, drop_of_length-le}
+use lib.Seq.{take_all}
+use Rattle.std.proofs.lemmas.Iterator.{YieldsList-from_slice}
+use Rattle.std.proofs.lemmas.Iterator.Search.{any_from_yields_List}
+use Rattle.jobs.specs.declared.Job.{Job}
+use Rattle.jobs.specs.Jobs.{no_job, distinct}
+use Rattle.jobs.proofs.Numbers.{distinct_none, stands_behind, none_behind}
 use Rattle.jobs.proofs.Table.numbers_differ.Goals as goal
 
-pub returns-then-self-k : goal.returns-then-self-k
-unfolding lacks
-returns-then-self-k c =
-    let here : distinct (live c.args.self) ≡ distinct (get_or c.args.self.jobs c.loop-i.i no_job ∷ drop (c.loop-i.i + 1) (live c.args.self)) =
-    let js = c.args.self.jobs in
-    let long : length js ≡ 64 = search (rules, length_mapped) in
-    c.loop-i.invariant ∙ ap distinct (next_live js _ c.loop-i.i no_job c.loop-i-test.true (omega arith)) in
-    let js = c.args.self.jobs in
-    let long : length js ≡ 64 = search (rules, length_mapped) in
-    let behind = next_live js _ c.loop-k.k no_job c.loop-k-test.true (omega arith) in
-    sym
-    (here
-    ∙ distinct_stop _ _ (sym (every_fails _ _ _ c.loop-k.invariant _ _ behind (ap not (eq-eqb _ _ c.if-self-k.true)))))
+pub returns-then-any : goal.returns-then-any
+returns-then-any c =
+    let js = c.loop-live.live.now in
+    let rest = drop 1 js in
+    let whole = take_all (length js - 1) rest (omega (arith, length-drop 1 js)) in
+    let p = λ (j : Job). eqb j.number (get_or js 0 no_job).number in
+    let said = any_from_yields_List p _ _ c.any.result c.any.ensures.ran (YieldsList-from_slice rest (c.iter.ensures.rest ∙ whole)) (λ x b q k. search (rules, tests)) in
+    sym (c.loop-live.invariant ∙ stands_behind js _ c.in-len1-up.len_at_least said c.if-any.true)
 
-pub loop-k-preserved : goal.loop-k-preserved
-unfolding lacks
-loop-k-preserved c =
-    let js = c.args.self.jobs in
-    let long : length js ≡ 64 = search (rules, length_mapped) in
-    let behind = next_live js _ c.loop-k.k no_job c.loop-k-test.true (omega arith) in
-    every_goes_on _ _ _ c.loop-k.invariant _ _ behind (ap not (ne_eqb _ _ c.if-self-k.false))
-
-pub loop-i-preserved : goal.loop-i-preserved
-unfolding lacks
-loop-i-preserved c =
-    let here : distinct (live c.args.self) ≡ distinct (get_or c.args.self.jobs c.loop-i.i no_job ∷ drop (c.loop-i.i + 1) (live c.args.self)) =
-    let js = c.args.self.jobs in
-    let long : length js ≡ 64 = search (rules, length_mapped) in
-    c.loop-i.invariant ∙ ap distinct (next_live js _ c.loop-i.i no_job c.loop-i-test.true (omega arith)) in
-    let js = c.args.self.jobs in
-    let long : length js ≡ 64 = search (rules, length_mapped) in
-    let none = no_more_live js _ c.loop-k.k c.loop-k-test.false (omega arith) in
-    here ∙ distinct_past _ _ (sym (every_passes _ _ _ c.loop-k.invariant none))
+pub loop-live-preserved : goal.loop-live-preserved
+loop-live-preserved c =
+    let js = c.loop-live.live.now in
+    let rest = drop 1 js in
+    let whole = take_all (length js - 1) rest (omega (arith, length-drop 1 js)) in
+    let p = λ (j : Job). eqb j.number (get_or js 0 no_job).number in
+    let said = any_from_yields_List p _ _ c.any.result c.any.ensures.ran (YieldsList-from_slice rest (c.iter.ensures.rest ∙ whole)) (λ x b q k. search (rules, tests)) in
+    c.loop-live.invariant ∙ none_behind js _ c.in-len1-up.len_at_least said c.if-any.false ∙ ap distinct (sym whole)
 
 pub returns : goal.returns
 returns c =
-    let js = c.args.self.jobs in
-    let long : length js ≡ 64 = search (rules, length_mapped) in
-    sym (c.loop-i.invariant ∙ ap distinct (no_more_live js _ c.loop-i.i c.loop-i-test.false (omega arith)) ∙ distinct_none)
+    let none = drop_of_length-le c.loop-live.live.now {i = 0} (omega (arith, c.in_default.len_below)) in
+    sym (c.loop-live.invariant ∙ ap distinct none ∙ distinct_none)

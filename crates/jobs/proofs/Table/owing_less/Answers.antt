@@ -60,8 +60,8 @@ returns c =
     ∙ sym (live_at (table_of ks) c.args.at (omega (arith, c.requires.1)))
     ∙ ap (λ l. get_or l c.args.at no_job) (live_of ks)
     ∙ get_or_mapped (lowered part) c.args.at no_job no_job (live c.args.self) inside in
-    let owes : c.less-left.result ≡ ticks (old.owed.0 - c.args.by.0) =
-    c.less-left.ensures ∙ ap (λ k. ticks (k.owed.0 - c.args.by.0)) here in
+    let owes : c.less.result ≡ ticks (old.owed.0 - c.args.by.0) =
+    c.less.ensures ∙ ap (λ k. ticks (k.owed.0 - c.args.by.0)) here in
     let ks = map (lowered part) (live c.args.self) in
     let count = many in
     (λ i. record {

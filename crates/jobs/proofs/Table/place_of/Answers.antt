@@ -1,43 +1,32 @@
--- `jobs::Table::place_of` meets its contract: the place is that among the jobs still to look at, counted from the first.
+-- `jobs::Table::place_of` meets its contract: what `position` says of the live jobs is the first that the job stands before.
 use mathlib.Core.Path.{◌≡◌, sym, ap, ◌∙◌}
-use mathlib.Core.List.{◌∷◌}
-use Prim.Native.Nat.{◌+◌, ◌≤◌}
 use native.Mathlib.Omega.{arith}
 use borrow.Author.Rules.{rules}
-use lib.ListN.{length, get_or, drop}
-use Rattle.lists.proofs.Places.{length_mapped, next_live, no_more_live}
-use Rattle.jobs.specs.Jobs.{live, no_job}
-use Rattle.jobs.specs.Sorted.{place_of}
-use Rattle.jobs.proofs.Sorted.{place_here, place_past, place_none}
+use borrow.Author.Tests.{tests}
+use lib.ListN.{length}
+use lib.Seq.{length-take-le}
+use Rattle.std.specs.Prelude.{unwrap_or}
+use Rattle.std.proofs.lemmas.Iterator.{YieldsList-from_slice}
+use Rattle.std.proofs.lemmas.Iterator.Adapters.{position_from-zero}
+use Rattle.std.proofs.lemmas.Iterator.Search.{position_from_yields_List}
+use Rattle.lists.proofs.Places.{length_mapped}
+use Rattle.jobs.specs.Jobs.{live}
+use Rattle.jobs.specs.Sorted.{before, place_of}
+use Rattle.std.specs.List.{position_from}
+use native.Mathlib.Nat.{zero-add}
+use Rattle.jobs.proofs.Sorted.{place_found}
 use Rattle.jobs.proofs.Table.place_of.Goals as goal
-
-pub returns-then-before : goal.returns-then-before
-returns-then-before c =
-    let few : c.args.self.count ≤ length c.args.self.jobs =
-    let long : length c.args.self.jobs ≡ 64 = search (rules, length_mapped) in
-    omega arith in
-    let here : drop c.loop-i.i (live c.args.self) ≡ get_or c.args.self.jobs c.loop-i.i no_job ∷ drop (c.loop-i.i + 1) (live c.args.self) =
-    let t = c.args.self in
-    next_live t.jobs t.count c.loop-i.i no_job c.loop-i-test.true few in
-    let job = c.args.job in
-    omega (arith, c.loop-i.invariant.1, ap (place_of job) here ∙ place_here job _ _ (sym c.before-in-loop-i.ensures ∙ c.if-before.true))
-
-pub loop-i-preserved : goal.loop-i-preserved
-loop-i-preserved c =
-    let few : c.args.self.count ≤ length c.args.self.jobs =
-    let long : length c.args.self.jobs ≡ 64 = search (rules, length_mapped) in
-    omega arith in
-    let here : drop c.loop-i.i (live c.args.self) ≡ get_or c.args.self.jobs c.loop-i.i no_job ∷ drop (c.loop-i.i + 1) (live c.args.self) =
-    let t = c.args.self in
-    next_live t.jobs t.count c.loop-i.i no_job c.loop-i-test.true few in
-    let job = c.args.job in
-    (omega arith, omega (arith, c.loop-i.invariant.1, ap (place_of job) here ∙ place_past job _ _ (sym c.before-in-loop-i.ensures ∙ c.if-before.false)))
 
 pub returns : goal.returns
 returns c =
-    let few : c.args.self.count ≤ length c.args.self.jobs =
-    let long : length c.args.self.jobs ≡ 64 = search (rules, length_mapped) in
-    omega arith in
     let t = c.args.self in
-    let job = c.args.job in
-    omega (arith, c.loop-i.invariant, c.loop-i-test.false, ap (place_of job) (no_more_live t.jobs t.count c.loop-i.i c.loop-i-test.false few) ∙ place_none job)
+    let js = live t in
+    let long : length t.jobs ≡ 64 = search (rules, length_mapped) in
+    let many : t.count ≡ length js = sym (length-take-le t.count t.jobs (omega arith)) in
+    let found = position_from_yields_List (before c.args.job) _ _ c.position.result c.position.ensures.ran (YieldsList-from_slice js c.iter.ensures.rest) (λ x b q k. search (rules, tests))
+    ∙ position_from-zero (before c.args.job) js in
+    c.unwrap_or.ensures
+    ∙ (λ i. unwrap_or (found i) (many i))
+    ∙ ap (unwrap_or (position_from (before c.args.job) 0 js)) (sym (zero-add (length js)))
+    ∙ place_found c.args.job js 0
+    ∙ zero-add (place_of c.args.job js)

@@ -1,13 +1,24 @@
 -- `jobs::Table::raised` meets its contract: the jobs so far show it too, the others are as they were.
+use mathlib.Core.Path.{ap, ◌∙◌}
 use native.Mathlib.Omega.{arith}
+use lib.ListN.{set, get_or}
+use Rattle.jobs.specs.Jobs.{live, no_job}
 use Rattle.jobs.specs.Figures.{raised}
-use Rattle.jobs.proofs.Places.{next_changed}
+use Rattle.jobs.proofs.Places.{next_changed, all_changed}
+use Rattle.lists.proofs.Places.{changed_all}
 use Rattle.jobs.proofs.Table.raised.Goals as goal
 
-pub loop-i-preserved : goal.loop-i-preserved
-loop-i-preserved c =
-    let loop = c.loop-i in (
-      omega arith,
-      loop.invariant.1,
-      next_changed c.args.self loop.table (raised c.args.job) loop.i c.raised-other.result c.requires.0 loop.invariant.2 c.loop-i-test.true c.raised-other.ensures,
-    )
+pub loop-other-preserved : goal.loop-other-preserved
+loop-other-preserved c =
+    let loop = c.loop-other in
+    let h = raised c.args.job in
+    ap (set loop.other-items loop.other-index) c.raised.ensures
+    ∙ ap (λ ks. set ks loop.other-index (h (get_or ks loop.other-index no_job))) loop.invariant
+    ∙ next_changed h loop.other-index (live c.args.self) (omega (arith, c.loop-other-test.true))
+
+pub returns : goal.returns
+returns c =
+    let t = c.args.self in
+    let h = raised c.args.job in
+    let loop = c.loop-other in
+    all_changed t h loop.other-items c.requires.0 (loop.invariant ∙ changed_all h loop.other-index (live t) (omega (arith, c.loop-other-test.false)))

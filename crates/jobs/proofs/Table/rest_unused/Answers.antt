@@ -1,31 +1,22 @@
--- `jobs::Table::rest_unused` meets its contract: the unused places are all zero exactly if those still to look at are.
-use mathlib.Core.Path.{◌≡◌, sym, ◌∙◌}
-use native.Mathlib.Omega.{arith}
+-- `jobs::Table::rest_unused` meets its contract: what `all` says of the places left over is what the test of every one says.
+use mathlib.Core.Path.{sym, ◌∙◌}
 use borrow.Author.Rules.{rules}
-use borrow.Author.Tests.{not-true, not-false}
-use lib.ListN.{length}
-use Rattle.lists.proofs.Places.{length_mapped, next, no_more, every_fails, every_goes_on, every_passes}
-use Rattle.jobs.specs.Jobs.{unused_job, no_job}
+use borrow.Author.Tests.{tests}
+use native.Mathlib.Omega.{arith}
+use Prim.Native.Nat.{◌-◌}
+use lib.ListN.{drop, length, length-drop}
+use lib.Seq.{take_all}
+use Rattle.std.proofs.lemmas.Iterator.{YieldsList-from_slice}
+use Rattle.std.proofs.lemmas.Iterator.Search.{all_from_yields_List}
+use Rattle.jobs.specs.Jobs.{unused_job}
+use Rattle.lists.proofs.Every.{every_is_all}
 use Rattle.jobs.proofs.Table.rest_unused.Goals as goal
-
-pub returns-then-not-is_none : goal.returns-then-not-is_none
-returns-then-not-is_none c =
-    let js = c.args.self.jobs in
-    let long : length js ≡ 64 = search (rules, length_mapped) in
-    every_fails unused_job _ _ c.loop-i.invariant _ _
-    (next js c.loop-i.i no_job (omega arith))
-    (sym c.is_none.ensures ∙ not-true _ c.if-not-is_none.true-raw)
-
-pub loop-i-preserved : goal.loop-i-preserved
-loop-i-preserved c =
-    let js = c.args.self.jobs in
-    let long : length js ≡ 64 = search (rules, length_mapped) in
-    every_goes_on unused_job _ _ c.loop-i.invariant _ _
-    (next js c.loop-i.i no_job (omega arith))
-    (sym c.is_none.ensures ∙ not-false _ c.if-not-is_none.false-raw)
 
 pub returns : goal.returns
 returns c =
-    let js = c.args.self.jobs in
-    let long : length js ≡ 64 = search (rules, length_mapped) in
-    every_passes unused_job _ _ c.loop-i.invariant (no_more js c.loop-i.i (omega arith))
+    let all = c.args.self.jobs in
+    let rest = drop c.args.self.count all in
+    let left = length all - c.args.self.count in
+    let whole = take_all left rest (omega (arith, length-drop c.args.self.count all)) in
+    all_from_yields_List unused_job _ _ c.all.result c.all.ensures.ran (YieldsList-from_slice rest (c.iter.ensures.rest ∙ whole)) (λ x b q k. search (rules, tests))
+    ∙ sym (every_is_all unused_job rest)

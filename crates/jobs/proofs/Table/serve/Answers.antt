@@ -21,9 +21,9 @@ owing_less-table-requires c =
     let table : Table =
     c.args.self in
     let at : ℕ =
-    c.in-At.at in
+    c.in-Some.at in
     let found : FoundAt c.args.number at (live table) × (at < table.count) =
-    found_live table _ _ c.requires.0 (sym c.find.ensures ∙ c.in-At.is) in
+    found_live table _ _ c.requires.0 (sym c.find.ensures ∙ c.in-Some.is) in
     let owing : Owing (get_or (live table) at no_job) =
     each_get_or Owing (live table) at no_job c.requires.1 found.0.inside in
     (c.requires.0, found.1, c.requires.2, omega (arith, ap (λ l. l.0) c.of.ensures, owing))
@@ -31,11 +31,11 @@ owing_less-table-requires c =
 pub offset_bounds-table-at : goal.offset_bounds-table-at
 offset_bounds-table-at c =
     let at : ℕ =
-    c.in-At.at in
+    c.in-Some.at in
     let table : Table =
     c.args.self in
     let found : FoundAt c.args.number at (live table) × (at < table.count) =
-    found_live table _ _ c.requires.0 (sym c.find.ensures ∙ c.in-At.is) in
+    found_live table _ _ c.requires.0 (sym c.find.ensures ∙ c.in-Some.is) in
     let after : c.owing_less-table.result ≡ table_of (figured (owing_less at 1 (live table))) =
     c.owing_less-table.ensures ∙ ap (λ l. table_of (figured (owing_less at l.0 (live table)))) c.of.ensures in
     let inside : at < c.owing_less-table.result.count =
@@ -47,11 +47,11 @@ offset_bounds-table-at c =
 pub bounds-table-at : goal.bounds-table-at
 bounds-table-at c =
     let at : ℕ =
-    c.in-At.at in
+    c.in-Some.at in
     let table : Table =
     c.args.self in
     let found : FoundAt c.args.number at (live table) × (at < table.count) =
-    found_live table _ _ c.requires.0 (sym c.find.ensures ∙ c.in-At.is) in
+    found_live table _ _ c.requires.0 (sym c.find.ensures ∙ c.in-Some.is) in
     let after : c.owing_less-table.result ≡ table_of (figured (owing_less at 1 (live table))) =
     c.owing_less-table.ensures ∙ ap (λ l. table_of (figured (owing_less at l.0 (live table)))) c.of.ensures in
     let inside : at < c.owing_less-table.result.count =
@@ -65,41 +65,41 @@ without-requires c =
     let table : Table =
     c.args.self in
     let at : ℕ =
-    c.in-At.at in
+    c.in-Some.at in
     let found : FoundAt c.args.number at (live table) × (at < table.count) =
-    found_live table _ _ c.requires.0 (sym c.find.ensures ∙ c.in-At.is) in
+    found_live table _ _ c.requires.0 (sym c.find.ensures ∙ c.in-Some.is) in
     let after : c.owing_less-table.result ≡ table_of (figured (owing_less at 1 (live table))) =
     c.owing_less-table.ensures ∙ ap (λ l. table_of (figured (owing_less at l.0 (live table)))) c.of.ensures in
     rw after (less_tidy table c.requires.0 at 1 found.1, omega (arith, less_count table c.requires.0 at 1 found.1, found.1))
 
-pub returns-then-is_none : goal.returns-then-is_none
-returns-then-is_none c =
+pub returns-then-eq : goal.returns-then-eq
+returns-then-eq c =
     let table : Table =
     c.args.self in
     let at : ℕ =
-    c.in-At.at in
+    c.in-Some.at in
     let found : FoundAt c.args.number at (live table) × (at < table.count) =
-    found_live table _ _ c.requires.0 (sym c.find.ensures ∙ c.in-At.is) in
+    found_live table _ _ c.requires.0 (sym c.find.ensures ∙ c.in-Some.is) in
     let after : c.owing_less-table.result ≡ table_of (figured (owing_less at 1 (live table))) =
     c.owing_less-table.ensures ∙ ap (λ l. table_of (figured (owing_less at l.0 (live table)))) c.of.ensures in
     let left : (get_or c.owing_less-table.result.jobs at no_job).owed.0 ≡ (get_or (live table) at no_job).owed.0 - 1 =
     ap (λ t. (get_or t.jobs at no_job).owed.0) after ∙ less_owes table c.requires.0 at 1 found.1 in
     let js = live table in
-    let none : (get_or c.owing_less-table.result.jobs at no_job).owed.0 ≡ 0 = eqb-true _ _ (sym c.is_none.ensures ∙ c.if-is_none.true) in
+    let none : (get_or c.owing_less-table.result.jobs at no_job).owed.0 ≡ 0 = eqb-true _ _ (sym c.eq.ensures ∙ c.if-eq.true) in
     let last : (get_or js at no_job).owed.0 ≤ 1 = omega (arith, left, none) in
     c.without.ensures
     ∙ ap (λ t. table_of (out at (live t))) after
     ∙ spent_leaves table c.requires.0 at 1 found.1 last
     ∙ ap (λ l. table_of (figured l)) (sym (served_leaves _ _ js found.0 (c.requires.3 _) c.requires.1 last))
 
-pub returns-else-is_none : goal.returns-else-is_none
-returns-else-is_none c =
+pub returns-else-eq : goal.returns-else-eq
+returns-else-eq c =
     let table : Table =
     c.args.self in
     let at : ℕ =
-    c.in-At.at in
+    c.in-Some.at in
     let found : FoundAt c.args.number at (live table) × (at < table.count) =
-    found_live table _ _ c.requires.0 (sym c.find.ensures ∙ c.in-At.is) in
+    found_live table _ _ c.requires.0 (sym c.find.ensures ∙ c.in-Some.is) in
     let owing : Owing (get_or (live table) at no_job) =
     each_get_or Owing (live table) at no_job c.requires.1 found.0.inside in
     let after : c.owing_less-table.result ≡ table_of (figured (owing_less at 1 (live table))) =
@@ -107,12 +107,12 @@ returns-else-is_none c =
     let left : (get_or c.owing_less-table.result.jobs at no_job).owed.0 ≡ (get_or (live table) at no_job).owed.0 - 1 =
     ap (λ t. (get_or t.jobs at no_job).owed.0) after ∙ less_owes table c.requires.0 at 1 found.1 in
     let js = live table in
-    let some : (get_or c.owing_less-table.result.jobs at no_job).owed.0 ≡ 0 → ⊥ = eqb-false _ _ (sym c.is_none.ensures ∙ c.if-is_none.false) in
+    let some : (get_or c.owing_less-table.result.jobs at no_job).owed.0 ≡ 0 → ⊥ = eqb-false _ _ (sym c.eq.ensures ∙ c.if-eq.false) in
     let more : 1 < (get_or js at no_job).owed.0 = omega (arith, left, some, owing) in
     after ∙ ap (λ l. table_of (figured l)) (sym (served_stays _ _ js found.0 (c.requires.3 _) c.requires.1 more))
 
-pub returns-in-Nothing : goal.returns-in-Nothing
-returns-in-Nothing c =
+pub returns-in-None : goal.returns-in-None
+returns-in-None c =
     let js = live c.args.self in
-    let none = found_nothing _ _ js (sym c.find.ensures ∙ c.in-Nothing.is) in
+    let none = found_nothing _ _ js (sym c.find.ensures ∙ c.in-None.is) in
     c.requires.0.filled ∙ ap table_of (sym (ap figured (served_others _ js none c.requires.1) ∙ figured_own js c.requires.2))
