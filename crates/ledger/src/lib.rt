@@ -40,31 +40,25 @@ impl Ledger {
     }
 
     // Whether any state that is handed in is in order.
+    #[tactic(auto, unfolding(crate::specs::State::in_order, lists::specs::Lists::all_of))]
     pub fn in_order(self) -> bool
         ensures { result ≡ in_order self }
     {
-        if !self.clock.within() {
-            return false;
-        }
-        if !self.charge.suits_charge() {
-            return false;
-        }
-        if !self.feeds.in_order(self.charge, self.clock) {
-            return false;
-        }
-        self.table.in_order(self.charge, self.clock)
+        self.clock.within()
+            && self.charge.suits_charge()
+            && self.feeds.in_order(self.charge, self.clock)
+            && self.table.in_order(self.charge, self.clock)
     }
 
     // The state at another instant, with other pieces and other jobs; everything else stays.
     pub fn moved(self, clock: Instant, feeds: Feeds, table: Table) -> Ledger
         ensures { result ≡ moved self clock feeds table }
     {
-        let charge = self.charge;
         Ledger {
             clock,
-            charge,
             feeds,
             table,
+            ..self
         }
     }
 }

@@ -1,5 +1,6 @@
 -- Laws of the walk to the first overbooked instant or the tightest one.
 use mathlib.Core.Path.{◌≡◌, refl}
+use mathlib.Core.Logic.{inl, inr}
 use mathlib.Core.Bool.{cond}
 use Prim.Native.Nat.{ℕ, ◌+◌, ◌-◌, ◌≤◌, ◌<◌}
 use native.Mathlib.Nat.{le_refl}
@@ -19,10 +20,11 @@ use Rattle.ledger.specs.State.{InOrder}
 use Rattle.ledger.specs.Books.{book_of}
 use Rattle.ledger.proofs.InOrder.{state_in_order, book_round}
 use Rattle.room.specs.Ahead.{last_due, horizon_of}
-use Rattle.room.proofs.Ahead.{last_beyond}
+use Rattle.room.specs.Owed.{Reach}
+use Rattle.room.proofs.Ahead.{last_beyond, horizon_near}
 use Rattle.reasons.specs.Until.{Until}
 use Rattle.reasons.specs.declared.Debt.{Debt}
-use Rattle.reasons.specs.Reasons.{debt_by, tighter}
+use Rattle.reasons.specs.Reasons.{debt_by, tighter, Tells}
 
 -- the walk has come to `by`: before it there is room, and `best` is the earliest instant of the smallest margin
 pub record Walked (b : Book) (best : Debt) (by : ℕ) : Type 0 where
@@ -113,3 +115,25 @@ walked_done l best by o far w =
           (λ E h k. w.least E h (omega arith));
       first = w.first;
     }
+
+-- no instant up to the horizon lies out of reach
+pub in_reach : (l : Ledger) (by : Instant) → InOrder l → by.0 ≤ (horizon_of l).0 → Reach l.clock by
+in_reach l by o h = record { inside = o.clock; near = omega (arith, (horizon_near l o).1) }
+
+-- THE FIRST OVERBOOKED INSTANT IS TOLD
+pub told_first : (l : Ledger) (best : Debt) (by : Instant) → InOrder l → Walked (book_of l) best by.0 → by.0 ≤ (horizon_of l).0
+    → Overbooked (book_of l) by.0 → Tells l.clock (book_of l) (debt_by (book_of l) by)
+told_first l best by o w near short = record {
+  telling = inl (walked_stops (book_of l) best by.0 w short);
+  reach = in_reach l by o near;
+  owed = refl;
+}
+
+-- OR WHERE THE WALK IS PAST THE HORIZON, THE TIGHTEST
+pub told_last : (l : Ledger) (best : Debt) (by : ℕ) → InOrder l → Walked (book_of l) best by → (horizon_of l).0 < by → best.at.0 ≤ (horizon_of l).0
+    → Tells l.clock (book_of l) best
+told_last l best by o w far near = record {
+  telling = inr (walked_done l best by o far w);
+  reach = in_reach l best.at o near;
+  owed = w.owed;
+}

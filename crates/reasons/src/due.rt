@@ -21,11 +21,11 @@ fn job_due_after(job: Job, by: Instant, till: Instant) -> Instant
     requires { by.0 < till.0 }
     ensures { Until (λ D. owes_by D job) by.0 till.0 result.0 }
 {
-    if job.deadline.is_after(by) {
-        let deadline = job.deadline;
-        return deadline.earlier_of(till);
+    if job.deadline > by {
+        job.deadline.min(till)
+    } else {
+        till
     }
-    till
 }
 
 // The next deadline of the jobs.
@@ -33,26 +33,26 @@ fn jobs_due_after(table: Table, by: Instant, till: Instant) -> Instant
     requires { (table.count ≤ most_jobs) × (by.0 < till.0) }
     ensures { Until (λ D. total (owes_by D) (live table)) by.0 till.0 result.0 }
 {
-    let count = table.count;
     let mut next = till;
-    for i in 0..count {
-        next = job_due_after(table.jobs[i], by, next);
+    for job in &table.jobs[..table.count] {
+        next = job_due_after(*job, by, next);
     }
     next
 }
 
 // The next deadline of a feed's pieces: they lie a period apart, whatever the charge is.
+#[tactic(auto, using(plans::proofs::Plans::since_lt))]
 fn feed_due_after(feed: Feed, clock: Instant, by: Instant, till: Instant) -> Instant
     requires { FeedIn feed × Reach clock by × (by.0 < till.0) }
     ensures { (charge : Length) → Until (λ D. feed_owes charge clock.0 D feed) by.0 till.0 result.0 }
 {
     let first = clock.plus(feed.plan.lead);
     let reached = by.plus(feed.plan.since(clock));
-    if first.is_after(reached) {
-        return by.plus(first.ticks_since(reached)).earlier_of(till);
+    if reached < first {
+        return by.plus(first.ticks_since(reached)).min(till);
     }
     let over = Length(reached.ticks_since(first).0 % feed.plan.period.0);
-    by.plus(feed.plan.period.less(over)).earlier_of(till)
+    by.plus(feed.plan.period.less(over)).min(till)
 }
 
 // The next deadline of the feeds' pieces.
@@ -60,10 +60,9 @@ fn feeds_due_after(feeds: Feeds, clock: Instant, by: Instant, till: Instant) -> 
     requires { (feeds.count ≤ most_feeds) × Each FeedIn (in_use feeds) × Reach clock by × (by.0 < till.0) }
     ensures { (charge : Length) → Until (λ D. total (feed_owes charge clock.0 D) (in_use feeds)) by.0 till.0 result.0 }
 {
-    let count = feeds.count;
     let mut next = till;
-    for i in 0..count {
-        next = feed_due_after(feeds.feeds[i], clock, by, next);
+    for feed in &feeds.feeds[..feeds.count] {
+        next = feed_due_after(*feed, clock, by, next);
     }
     next
 }

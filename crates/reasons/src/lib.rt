@@ -38,14 +38,16 @@ fn tighter(best: Debt, next: Debt) -> Debt
     requires { (next.at.0 + best.owed.0 < 2 ^ 64) × (best.at.0 + next.owed.0 < 2 ^ 64) }
     ensures { result ≡ tighter best next }
 {
-    if best.at.plus(next.owed).is_after(next.at.plus(best.owed)) {
-        return next;
+    if next.at.plus(best.owed) < best.at.plus(next.owed) {
+        next
+    } else {
+        best
     }
-    best
 }
 
 // The walk: up from the instant after the clock over those at which something is due, as far as the horizon and no
 // further than the first that is overbooked. In between nothing more is owed while the margin grows.
+#[tactic(auto, using(crate::proofs::Walk::in_reach, crate::proofs::Walk::walked_first, crate::proofs::Walk::told_last, room::proofs::Ahead::horizon_near))]
 pub fn tightest(ledger: Ledger) -> Debt
     requires { InOrder ledger }
     ensures { Tells ledger.clock (book_of ledger) result }
@@ -54,9 +56,9 @@ pub fn tightest(ledger: Ledger) -> Debt
     let end = room::horizon(ledger).next();
     let mut by = clock.next();
     let mut best = debt_by(ledger, by);
-    while end.is_after(by) {
+    while by < end {
         let next = debt_by(ledger, by);
-        if next.owed.is_longer(by.ticks_since(clock)) {
+        if next.owed > by.ticks_since(clock) {
             return next;
         }
         best = tighter(best, next);
@@ -70,7 +72,7 @@ pub fn margin(time: Length, owed: Length) -> i64
     requires { (time.0 < 2 ^ 63) × (owed.0 < 2 ^ 63) }
     ensures { result ≡ pos time.0 -ℤ pos owed.0 }
 {
-    (time.0 as i64) - (owed.0 as i64)
+    time.0.cast_signed() - owed.0.cast_signed()
 }
 
 // What a customer is told of an instant: how much the live jobs, the feeds and the job that is asked for owe by then, and
@@ -104,14 +106,13 @@ impl Reason {
     {
         Reason {
             at,
-            jobs: Length::NONE,
-            feeds: Length::NONE,
-            job: Length::NONE,
             margin,
+            ..Reason::none()
         }
     }
 }
 
+#[tactic(auto, using(jobs::proofs::Figures::owes_by_le, room::proofs::Owed::jobs_owe_little))]
 pub fn reason_at(ledger: Ledger, job: Job, at: Instant) -> Reason
     requires { InOrder ledger × Modest job × Reach ledger.clock at × (ledger.clock.0 ≤ at.0) }
     ensures { result ≡ reason_at ledger job at }

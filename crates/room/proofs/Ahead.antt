@@ -1,12 +1,14 @@
 -- Laws of how far ahead one has to look.
-use mathlib.Core.Path.{◌≡◌, sym, ap, subst, ◌∙◌}
+use mathlib.Core.Path.{◌≡◌, ap, subst}
 use mathlib.Core.Bool.{cond}
 use mathlib.Core.List.{List, [], ◌∷◌}
 use Prim.Native.Nat.{ℕ, suc, ◌+◌, ◌≤◌, ◌<◌}
 use native.Mathlib.Nat.{le_refl, le_trans}
 use native.Mathlib.Omega.{arith}
+use lib.ListN.{length, get_or, drop}
 use Rattle.lists.specs.Lists.{Each}
 use Rattle.lists.proofs.Lists.{each_imp, each_map}
+use Rattle.lists.proofs.Places as places
 use Rattle.lists.proofs.Tests.{ltb_elim}
 use Rattle.ticks.specs.declared.Instant.{Instant}
 use Rattle.ticks.specs.declared.Length.{Length}
@@ -35,15 +37,10 @@ later_least t u L h k = ltb_elim (λ b. (cond b u t).0 ≤ L) t.0 u.0 (λ l. k) 
 
 module _ {A : Type 0} (f : A → Instant) where
   -- the next of those that are left is looked at
-  pub latest_goes_on : (all : Instant) (left : List A) (last : Instant) (x : A) (rest : List A) → all ≡ latest_of f left last → left ≡ x ∷ rest
-      → all ≡ latest_of f rest (later_of last (f x))
+  pub latest_next : (xs : List A) (i : ℕ) (d : A) (last : Instant) → i < length xs
+      → latest_of f (drop i xs) last ≡ latest_of f (drop (i + 1) xs) (later_of last (f (get_or xs i d)))
   unfolding latest_of
-  latest_goes_on all left last x rest so_far e = so_far ∙ ap (λ l. latest_of f l last) e
-
-  -- none is left
-  pub latest_done : (all : Instant) (left : List A) (last : Instant) → all ≡ latest_of f left last → left ≡ [] → last ≡ all
-  unfolding latest_of
-  latest_done all left last so_far e = sym (so_far ∙ ap (λ l. latest_of f l last) e)
+  latest_next xs i d last h = ap (λ l. latest_of f l last) (places.next xs i d h)
 
   pub latest_from : (xs : List A) (from : Instant) → from.0 ≤ (latest_of f xs from).0
   unfolding latest_of

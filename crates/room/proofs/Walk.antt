@@ -1,9 +1,10 @@
 -- Laws of the walk back from the horizon.
-use mathlib.Core.Path.{◌≡◌, refl}
+use mathlib.Core.Path.{◌≡◌, refl, sym, subst}
 use mathlib.Core.Bool.{Bool, true, false}
 use Prim.Native.Nat.{ℕ, suc, ◌+◌, ◌-◌, ◌≤◌, ◌<◌}
 use native.Mathlib.Decide.{dec_le, dec_lt}
 use native.Mathlib.Omega.{arith}
+use Rattle.lists.proofs.Tests.{false_not_true}
 use Rattle.feeds.specs.Feeds.{in_use}
 use Rattle.feeds.specs.Round.{periods, round_of}
 use Rattle.edf.specs.Book.{Book}
@@ -47,6 +48,28 @@ room_stops b by H o c h k near = go (dec_lt b.clock by)
     go : Dec (b.clock < by) → ⊥
     go (yes p) = omega (arith, near by p h)
     go (no p) = omega (arith, owed_by_past b by o (omega arith))
+
+-- at the last instant before its end there is time enough, so it goes on before what is owed by then could be done
+pub walk_on : (l : Ledger) (by end next H : ℕ) → RoomFrom end H (book_of l) → by + 1 ≡ end → owed_by (book_of l) by ≤ by - l.clock.0
+    → next ≡ l.clock.0 + owed_by (book_of l) by → RoomFrom next H (book_of l)
+walk_on l by end next H far e enough n =
+    let b = book_of l in
+    let here : suc by ≡ end = omega arith in
+    subst (λ k. RoomFrom k H b) (sym n) (room_back b by H enough (subst (λ k. RoomFrom k H b) (sym here) far))
+
+-- it has come to the clock
+pub walk_done : (l : Ledger) (end H : ℕ) → RoomFrom end H (book_of l) → end ≤ l.clock.0 + 1 → RoomSays true H (book_of l)
+walk_done l end H far h = record {
+  yes = λ e. room_all (book_of l) end H (omega arith) far;
+  no = λ e. absurd (false_not_true (sym e));
+}
+
+-- there is too little time by an instant
+pub walk_stops : (l : Ledger) (by H : ℕ) → InOrder l → l.clock.0 ≤ by → by < H → by - l.clock.0 < owed_by (book_of l) by → RoomSays false H (book_of l)
+walk_stops l by H o c h short = record {
+  yes = λ e. absurd (false_not_true e);
+  no = λ e. room_stops (book_of l) by H (state_in_order l o) c h short;
+}
 
 -- LINE 6: room below the horizon is what fits means, in both directions
 pub fits_says : (l : Ledger) (r : Bool) → InOrder l → RoomSays r (horizon_of l).0 (book_of l) → FitsSays r (book_of l)

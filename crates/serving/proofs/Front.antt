@@ -2,9 +2,10 @@
 use mathlib.Core.Path.{◌≡◌, refl, sym, ap, subst, ◌∙◌}
 use mathlib.Core.Bool.{Bool, true, false, cond, ◌&&◌, ◌||◌}
 use mathlib.Core.List.{List, [], ◌∷◌, ◌++◌, map}
-use Prim.Native.Nat.{ℕ, suc, ◌<◌}
+use Prim.Native.Nat.{ℕ, suc, ◌+◌, ◌<◌}
 use native.Mathlib.Omega.{arith}
 use lib.Dec.{T, ltb, leb, eqb}
+use lib.ListN.{length}
 use borrow.Author.Tests.{eq-eqb, le-leb, lt-ltb}
 use Rattle.lists.specs.Lists.{Each}
 use Rattle.lists.proofs.Tests.{ltb_elim, both, both_made}
@@ -24,7 +25,7 @@ use Rattle.ledger.specs.Books.{book_feeds, book_job, book_at, who_of}
 use Rattle.ledger.proofs.Books.{who_back}
 use Rattle.ledger.proofs.Pieces.{due_read}
 use Rattle.serving.specs.declared.Piece.{Piece}
-use Rattle.serving.specs.Front.{front_of, piece_of, sooner_of, goes_before_of, first_of_two, nobody_front, job_front, foremost_over, job_fronts, feed_fronts}
+use Rattle.serving.specs.Front.{front_of, piece_of, sooner_of, goes_before_of, first_of_two, nobody_front, job_front, feed_front, foremost_over, job_fronts, feed_fronts}
 
 -- who goes first does not turn on from when on a piece is ready
 goes_alike : (p q : BookPiece) → goes_before (piece_of (front_of p)) (piece_of (front_of q)) ≡ goes_before p q
@@ -83,6 +84,16 @@ unfolding foremost_over
 first_job_is_foremost j [] p o s = refl
 first_job_is_foremost j (k ∷ ks) p o s =
     ap (first_of_two (job_front j)) (first_job_is_foremost k ks p o.1 s.1) ∙ skips (job_front j) (job_front k) p o.0 (stands_sooner j k s.0.0)
+
+-- the last of the feeds is passed, and the best so far is the one of the two that goes first
+pub last_passed : (t : Instant) (k : ℕ) (left : List Feed) (f : Feed) (best : Piece)
+    → foremost_over (feed_fronts t k (left ++ (f ∷ []))) best ≡ foremost_over (feed_fronts t k left) (first_of_two (feed_front t (k + length left) f) best)
+unfolding foremost_over
+last_passed t k [] f best = ap (λ n. first_of_two (feed_front t n f) best) (omega arith)
+last_passed t k (g ∷ gs) f best =
+    let further : suc k + length gs ≡ k + suc (length gs) = omega arith in
+    ap (first_of_two (feed_front t k g))
+    (last_passed t (suc k) gs f best ∙ ap (λ n. foremost_over (feed_fronts t (suc k) gs) (first_of_two (feed_front t n f) best)) further)
 
 front_cond : (b : Bool) (p q : BookPiece) → cond b (front_of p) (front_of q) ≡ front_of (cond b p q)
 front_cond true p q = refl

@@ -82,6 +82,12 @@ given_sorted (who.Job n) js s = sorted_keep (λ j. ltb 0 j.owed.0) (map (served_
 given_sorted (who.Feed p) js s = s
 given_sorted who.Idle js s = s
 
+-- where a tick goes to no job, they stay as they are
+pub jobs_stay : (w : Who) (js : List Job) → ((n : ℕ) → w ≡ who.Job n → ⊥) → served_jobs w js ≡ js
+jobs_stay (who.Job n) js h = absurd (h n refl)
+jobs_stay (who.Feed p) js h = refl
+jobs_stay who.Idle js h = refl
+
 -- and written from them, the figures done afresh
 pub jobs_given : (w : Who) (js : List Job) → Each Owing js → Sorted js
     → figured (served_jobs w js) ≡ figured (sorted (map job_of (keep (λ j. ltb 0 j.owes) (map (serve_job (who_of w)) (map book_job js)))))

@@ -1,56 +1,53 @@
--- Who goes first, test by test as the code makes them.
-use mathlib.Core.Path.{◌≡◌, refl, sym, ap, ◌∙◌}
-use mathlib.Core.Bool.{Bool, true, false, ◌&&◌, ◌||◌}
-use Prim.Native.Nat.{ℕ, ◌≤◌, ◌<◌}
+-- The derived order of whom a tick goes to, after the deadlines, is that of the mathematics.
+use mathlib.Core.Path.{◌≡◌, refl, ap, ◌∙◌}
+use mathlib.Core.Bool.{Bool, true, false, cond, ◌&&◌, ◌||◌}
+use Prim.Native.Nat.{ℕ}
 use native.Mathlib.Omega.{arith}
-use lib.Dec.{eqb}
-use borrow.Author.Tests.{lt-ltb, le-ltb, eq-eqb, ne_eqb}
-use Rattle.edf.specs.Pieces.{Piece}
-use Rattle.edf.specs.Step.{number_of, first, sooner, goes_before}
+use lib.Dec.{ltb, leb, eqb}
+use Rattle.std.proofs.lemmas.Bool.Decides.{nat_tests}
+use Rattle.std.specs.Prelude.{Option, Some}
+use Rattle.std.proofs.Common.{Ordering, Less, Equal, Greater}
+use Rattle.std.specs.Ordering.{is_le, is_some_and, nat_cmp, partial_le, partial_ordering_then}
+use Rattle.ticks.specs.declared.Instant.{Instant}
+use Rattle.ticks.specs.contracts.InstantPartialOrd.TheImpl as instants
+use Rattle.edf.specs.Step.{kind, number_of, first, sooner}
 use Rattle.answers.specs.declared.Who.{Who}
 use Rattle.answers.specs.declared.Who.TheVariants as who
-use Rattle.answers.specs.Answers.{name_of}
+use Rattle.answers.specs.contracts.WhoPartialOrd.TheImpl as whos
 use Rattle.ledger.specs.Books.{who_of}
+use Rattle.serving.specs.declared.Piece.{Piece}
+use Rattle.serving.specs.Front.{sooner_of}
 
-pub first_below : (a b : ℕ) (r : Bool) → a < b → true ≡ first a b r
+-- a number decides, and only where both are the same the rest
+number_first : (a b : ℕ) (rest : Option Ordering)
+    → is_some_and is_le (partial_ordering_then (Some (nat_cmp a b)) rest) ≡ first a b (is_some_and is_le rest)
 unfolding first
-first_below a b r h = sym (ap (λ x. x || (eqb a b && r)) (lt-ltb a b h))
+number_first a b rest = go (ltb a b) (eqb a b)
+  where
+    go : (p q : Bool) → is_some_and is_le (partial_ordering_then (Some (cond p Less (cond q Equal Greater))) rest) ≡ p || (q && is_some_and is_le rest)
+    go true q = refl
+    go false true = refl
+    go false false = refl
 
-pub first_above : (a b : ℕ) (r : Bool) → b < a → false ≡ first a b r
+number_le : (a b : ℕ) → is_le (nat_cmp a b) ≡ leb a b
+number_le a b = grind (arith, nat_tests)
+
+-- jobs before feeds before nobody, then the lower number
+who_first : (v w : Who) → is_some_and is_le ((whos.ghosts).partial_cmp v w) ≡ first (kind (who_of v)) (kind (who_of w)) (leb (number_of (who_of v)) (number_of (who_of w)))
 unfolding first
-first_above a b r h =
-    let differ : a ≡ b → ⊥ = λ e. omega arith in
-    sym (ap (λ x. x || (eqb a b && r)) (le-ltb a b (omega arith)) ∙ ap (λ x. x && r) (ne_eqb a b differ))
+who_first (who.Job a) (who.Job b) = number_le a b
+who_first (who.Job a) (who.Feed b) = refl
+who_first (who.Job a) who.Idle = refl
+who_first (who.Feed a) (who.Job b) = refl
+who_first (who.Feed a) (who.Feed b) = number_le a b
+who_first (who.Feed a) who.Idle = refl
+who_first who.Idle (who.Job b) = refl
+who_first who.Idle (who.Feed b) = refl
+who_first who.Idle who.Idle = refl
 
-pub first_same : (a b : ℕ) (r x : Bool) → a ≤ b → b ≤ a → x ≡ r → x ≡ first a b r
-unfolding first
-first_same a b r x h k e =
-    let same : a ≡ b = omega arith in
-    e ∙ sym (ap (λ y. y || (eqb a b && r)) (le-ltb a b k) ∙ ap (λ y. y && r) (eq-eqb a b same))
-
--- what owes nothing goes before nobody
-pub owes_nothing : (p q : Piece) → p.owes ≡ 0 → false ≡ goes_before p q
-unfolding goes_before
-owes_nothing p q z = sym (ap (λ x. x && (eqb q.owes 0 || sooner p q)) (le-ltb 0 p.owes (omega arith)))
-
--- ready work goes before what owes nothing
-pub before_nothing : (p q : Piece) → (p.owes ≡ 0 → ⊥) → q.owes ≡ 0 → true ≡ goes_before p q
-unfolding goes_before
-before_nothing p q n z =
-    sym
-    (ap (λ x. x && (eqb q.owes 0 || sooner p q)) (lt-ltb 0 p.owes (omega arith))
-    ∙ ap (λ x. x || sooner p q) (eq-eqb q.owes 0 z))
-
--- both are ready: the sooner goes before
-pub both_ready : (p q : Piece) → (p.owes ≡ 0 → ⊥) → (q.owes ≡ 0 → ⊥) → sooner p q ≡ goes_before p q
-unfolding goes_before
-both_ready p q n m =
-    sym
-    (ap (λ x. x && (eqb q.owes 0 || sooner p q)) (lt-ltb 0 p.owes (omega arith))
-    ∙ ap (λ x. x || sooner p q) (ne_eqb q.owes 0 m))
-
--- the number that decides between two of a kind
-pub name_is : (w : Who) → name_of w ≡ number_of (who_of w)
-name_is (who.Job n) = refl
-name_is (who.Feed p) = refl
-name_is who.Idle = refl
+-- OF TWO PIECES THE ONE WITH THE LESSER DEADLINE, AND THEN OF THE LESSER, IS THE SOONER
+pub lesser_sooner : (p q : Piece)
+    → partial_le {X = Instant × Who} (λ x y. partial_ordering_then ((instants.ghosts).partial_cmp x.0 y.0) ((whos.ghosts).partial_cmp x.1 y.1)) (p.due, p.who) (q.due, q.who)
+    ≡ sooner_of p q
+unfolding sooner
+lesser_sooner p q = number_first p.due.0 q.due.0 ((whos.ghosts).partial_cmp p.who q.who) ∙ ap (first p.due.0 q.due.0) (who_first p.who q.who)

@@ -1,5 +1,5 @@
 -- A tick of the state: the step of the mathematics, written back.
-use Rattle.std.specs.Prelude.{List, [], ◌∷◌, not, ◌≤◌, ltb}
+use Rattle.std.specs.Prelude.{Result, List, [], ◌∷◌, not, ◌≤◌, ltb}
 use Rattle.ticks.specs.Ticks.{last_instant, ticks}
 use Rattle.feeds.specs.declared.Feed.{Feed}
 use Rattle.feeds.specs.Pieces.{owes_at, served as feed_served}
@@ -7,8 +7,9 @@ use Rattle.jobs.specs.declared.Job.{Job}
 use Rattle.jobs.specs.Served.{served as job_served}
 use Rattle.answers.specs.declared.Who.{Who}
 use Rattle.answers.specs.declared.Who.TheVariants as who
+use Rattle.answers.specs.declared.Refusal.{Refusal}
 use Rattle.answers.specs.declared.Refusal.TheVariants.{PastLast}
-use Rattle.answers.specs.Answers.{Line, line, first_of, on_yes}
+use Rattle.answers.specs.Answers.{Line, line, first_of, yes_with}
 use Rattle.edf.specs.Step.{ran, step}
 use Rattle.ledger.specs.declared.Ledger.{Ledger}
 use Rattle.ledger.specs.Books.{book_of, rewritten, who_is}
@@ -36,13 +37,15 @@ served_jobs who.Idle js = js
 abbrev pub last_line : Ledger → Line
 last_line l = line (not (ltb l.clock.0 last_instant)) PastLast
 
--- a step of a state in order: the state after the tick, whom it went to, and what that piece of work still owes; nobody and
--- nothing where the clock is at its end
-unfoldable pub stepped_of : Ledger → Stepped
-stepped_of l =
+-- the step of a state, written back: the state after the tick, whom it went to, and what that piece of work still owes
+abbrev pub stepped : Ledger → Stepped
+stepped l =
     record {
-      ledger = on_yes (first_of (last_line l ∷ [])) (rewritten l (step (book_of l))) l;
-      verdict = first_of (last_line l ∷ []);
-      who = on_yes (first_of (last_line l ∷ [])) (who_is (ran (book_of l)).who) who.Idle;
-      owes = on_yes (first_of (last_line l ∷ [])) (ticks (ran (book_of l)).owes) (ticks 0);
+      ledger = rewritten l (step (book_of l));
+      who = who_is (ran (book_of l)).who;
+      owes = ticks (ran (book_of l)).owes;
     }
+
+-- a step of a state in order, refused where the clock is at its end
+unfoldable pub stepped_of : Ledger → Result Stepped Refusal
+stepped_of l = yes_with (first_of (last_line l ∷ [])) (stepped l)

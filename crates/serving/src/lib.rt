@@ -17,7 +17,7 @@ ghost use Rattle.ledger.specs.Books.{book_of, who_of};
 ghost use Rattle.serving.specs.Front.{sooner_of, goes_before_of, first_of_two, nobody_front, job_front, feed_front, job_fronts, feed_fronts, foremost_over, front_of};
 ghost use Rattle.serving.specs.Tick.{served_feeds, served_jobs, Owed, stepped_of};
 
-use answers::{Refusal, Verdict, Who};
+use answers::{Refusal, Who};
 use feeds::{Feed, Feeds};
 use jobs::{Job, Table};
 use ledger::Ledger;
@@ -31,25 +31,12 @@ pub struct Piece {
     pub owes: Length,
 }
 
-// The state after a step and its answer; whom the tick went to, and what that piece of work still owes after it, before any
-// release. Nobody and nothing where the clock is at its end.
+// The state after a step; whom the tick went to, and what that piece of work still owes after it, before any release.
 #[derive(Clone, Copy)]
 pub struct Stepped {
     pub ledger: Ledger,
-    pub verdict: Verdict,
     pub who: Who,
     pub owes: Length,
-}
-
-// Jobs before feeds.
-fn rank(who: Who) -> u32
-    ensures { result ≡ kind (who_of who) }
-{
-    match who {
-        Who::Job(_) => 0,
-        Who::Feed(_) => 1,
-        Who::Idle => 2,
-    }
 }
 
 impl Piece {
@@ -65,59 +52,35 @@ impl Piece {
     }
 
     // The earlier deadline first, then a job before a feed, then the lower number.
+    #[tactic(auto, using(crate::proofs::Order::lesser_sooner))]
     fn sooner(self, other: Piece) -> bool
         ensures { result ≡ sooner_of self other }
     {
-        if other.due.is_after(self.due) {
-            return true;
-        }
-        if self.due.is_after(other.due) {
-            return false;
-        }
-        let my_who = self.who;
-        let their_who = other.who;
-        let mine = rank(my_who);
-        let theirs = rank(their_who);
-        if mine < theirs {
-            return true;
-        }
-        if theirs < mine {
-            return false;
-        }
-        my_who.name() <= their_who.name()
+        (self.due, self.who) <= (other.due, other.who)
     }
 
+    // Ready work before what owes nothing, and of two that are ready the sooner.
+    #[tactic(auto, unfolding(edf::specs::Step::goes_before))]
     fn goes_before(self, other: Piece) -> bool
         ensures { result ≡ goes_before_of self other }
     {
-        if self.owes.is_none() {
-            return false;
-        }
-        if other.owes.is_none() {
-            return true;
-        }
-        self.sooner(other)
+        self.owes > Length::NONE && (other.owes == Length::NONE || self.sooner(other))
     }
 
     // Of two, the one that goes first.
     fn first_of(self, other: Piece) -> Piece
         ensures { result ≡ first_of_two self other }
     {
-        if self.goes_before(other) {
-            return self;
-        }
-        other
+        if self.goes_before(other) { self } else { other }
     }
 
     fn of_job(job: Job) -> Piece
         ensures { result ≡ job_front job }
     {
-        let due = job.deadline;
-        let owes = job.owed;
         Piece {
             who: Who::Job(job.number),
-            due,
-            owes,
+            due: job.deadline,
+            owes: job.owed,
         }
     }
 
@@ -126,12 +89,10 @@ impl Piece {
         requires { FeedIn feed × (clock.0 < 2 ^ 63) }
         ensures { result ≡ feed_front clock position feed }
     {
-        let due = feed.plan.due(clock);
-        let owes = feed.owes;
         Piece {
             who: Who::Feed(position),
-            due,
-            owes,
+            due: feed.plan.due(clock),
+            owes: feed.owes,
         }
     }
 }
@@ -142,10 +103,8 @@ fn foremost_feed(feeds: Feeds, clock: Instant) -> Piece
     ensures { result ≡ foremost_over (feed_fronts clock 1 (in_use feeds)) nobody_front }
 {
     let mut best = Piece::nobody();
-    let mut i = feeds.count;
-    while 0 < i {
-        i -= 1;
-        let piece = Piece::of_feed(feeds.feeds[i], (i + 1) as u32, clock);
+    for (i, feed) in feeds.feeds[..feeds.count].iter().enumerate().rev() {
+        let piece = Piece::of_feed(*feed, (i + 1) as u32, clock);
         best = piece.first_of(best);
     }
     best
@@ -156,13 +115,14 @@ fn foremost_job(table: Table, piece: Piece) -> Piece
     requires { (table.count ≤ most_jobs) × Each Owing (live table) × Sorted (live table) }
     ensures { result ≡ foremost_over (job_fronts (live table)) piece }
 {
-    if table.count == 0 {
-        return piece;
+    match table.jobs[..table.count].first() {
+        Some(job) => Piece::of_job(*job).first_of(piece),
+        None => piece,
     }
-    Piece::of_job(table.jobs[0]).first_of(piece)
 }
 
 // Whom the next tick goes to.
+#[tactic(auto, using(crate::proofs::Front::foremost_is_runner))]
 pub fn foremost(ledger: Ledger) -> Piece
     requires { InOrder ledger }
     ensures { result ≡ front_of (runner (book_of ledger)) }
@@ -171,26 +131,26 @@ pub fn foremost(ledger: Ledger) -> Piece
 }
 
 // The feeds after the tick was given, before any release.
+#[tactic(auto, unfolding(crate::specs::Tick::Owed))]
 fn serve_feeds(feeds: Feeds, who: Who) -> Feeds
     requires { TidyFeeds feeds × Owed who (in_use feeds) }
     ensures { result ≡ feeds_of (served_feeds who (in_use feeds)) }
 {
     match who {
         Who::Feed(position) => feeds.serve(position),
-        Who::Job(_) => feeds,
-        Who::Idle => feeds,
+        _ => feeds,
     }
 }
 
 // The jobs after the tick was given.
+#[tactic(auto, using(jobs::proofs::Figures::figured_own, crate::proofs::Given::jobs_stay))]
 fn serve_jobs(table: Table, who: Who) -> Table
     requires { TidyTable table × Each Owing (live table) × Figured (live table) × ((n : ℕ) → times n (live table) ≤ 1) }
     ensures { result ≡ table_of (figured (served_jobs who (live table))) }
 {
     match who {
         Who::Job(number) => table.serve(number),
-        Who::Feed(_) => table,
-        Who::Idle => table,
+        _ => table,
     }
 }
 
@@ -198,36 +158,25 @@ fn serve_jobs(table: Table, who: Who) -> Table
 fn owes_then(front: Piece) -> Length
     ensures { result ≡ ticks (pred front.owes.0) }
 {
-    if front.owes.is_none() {
-        return Length::NONE;
-    }
-    front.owes.one_less()
+    Length(front.owes.0.saturating_sub(1))
 }
 
 // One step on a state in order: line 3; then the tick goes to the foremost piece, the clock goes on, and the pieces that
 // come are ready.
-pub fn step(ledger: Ledger) -> Stepped
+pub fn step(ledger: Ledger) -> Result<Stepped, Refusal>
     requires { InOrder ledger }
     ensures { result ≡ stepped_of ledger }
 {
-    let last = Instant::last();
-    if !last.is_after(ledger.clock) {
-        return Stepped {
-            ledger,
-            verdict: Verdict::No(Refusal::PastLast),
-            who: Who::Idle,
-            owes: Length::NONE,
-        };
+    if ledger.clock >= Instant::LAST {
+        return Err(Refusal::PastLast);
     }
     let front = foremost(ledger);
-    let who = front.who;
     let clock = ledger.clock.next();
-    let feeds = serve_feeds(ledger.feeds, who).arrive(ledger.charge, clock);
-    let table = serve_jobs(ledger.table, who);
-    Stepped {
+    let feeds = serve_feeds(ledger.feeds, front.who).arrive(ledger.charge, clock);
+    let table = serve_jobs(ledger.table, front.who);
+    Ok(Stepped {
         ledger: ledger.moved(clock, feeds, table),
-        verdict: Verdict::Yes,
-        who,
+        who: front.who,
         owes: owes_then(front),
-    }
+    })
 }

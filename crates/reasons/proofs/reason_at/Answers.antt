@@ -1,6 +1,6 @@
 -- `reasons::reason_at` meets its contract: the parts make all that is owed.
 use mathlib.Core.Path.{◌≡◌, ap, ◌∙◌}
-use Prim.Native.Nat.{◌+◌, ◌≤◌, ◌<◌, ◌^◌}
+use Prim.Native.Nat.{◌+◌}
 use native.Mathlib.Omega.{arith}
 use lib.IntN.{pos, ◌-ℤ◌}
 use mir.Syntax.{w64}
@@ -12,37 +12,8 @@ use Rattle.edf.specs.Owed.{owed_by}
 use Rattle.edf.specs.Margin.{margin}
 use Rattle.edf.specs.Calls.{taking}
 use Rattle.ledger.specs.Books.{book_of, book_job}
-use Rattle.jobs.specs.Figures.{most_owed}
-use Rattle.jobs.proofs.Figures.{owes_by_le}
-use Rattle.room.proofs.Owed.{jobs_owe_little}
 use Rattle.reasons.proofs.Parts.{parts_make_owed}
 use Rattle.reasons.proofs.reason_at.Goals as goal
-
-pub overflow_add-jobs : goal.overflow_add-jobs
-overflow_add-jobs c =
-    let modest : c.owes_by-asked.result.0 ≤ most_owed =
-    omega (arith, ap (λ l. l.0) c.owes_by-asked.ensures, owes_by_le c.args.at.0 c.args.job, c.requires.1) in
-    let small : c.owed_by-jobs.result.0 + c.feeds_owe-printers.result + c.owes_by-asked.result.0 < 2 ^ 63 =
-    omega (arith, ap (λ l. l.0) c.owed_by-jobs.ensures, jobs_owe_little c.args.ledger c.requires.0 c.args.at.0, c.feeds_owe-printers.ensures.1, modest) in
-    omega (arith, small)
-
-pub overflow_add-jobs-2 : goal.overflow_add-jobs-2
-overflow_add-jobs-2 c =
-    let modest : c.owes_by-asked.result.0 ≤ most_owed =
-    omega (arith, ap (λ l. l.0) c.owes_by-asked.ensures, owes_by_le c.args.at.0 c.args.job, c.requires.1) in
-    let small : c.owed_by-jobs.result.0 + c.feeds_owe-printers.result + c.owes_by-asked.result.0 < 2 ^ 63 =
-    omega (arith, ap (λ l. l.0) c.owed_by-jobs.ensures, jobs_owe_little c.args.ledger c.requires.0 c.args.at.0, c.feeds_owe-printers.ensures.1, modest) in
-    omega (arith, small)
-
-pub margin-requires : goal.margin-requires
-margin-requires c =
-    let modest : c.owes_by-asked.result.0 ≤ most_owed =
-    omega (arith, ap (λ l. l.0) c.owes_by-asked.ensures, owes_by_le c.args.at.0 c.args.job, c.requires.1) in
-    let small : c.owed_by-jobs.result.0 + c.feeds_owe-printers.result + c.owes_by-asked.result.0 < 2 ^ 63 =
-    omega (arith, ap (λ l. l.0) c.owed_by-jobs.ensures, jobs_owe_little c.args.ledger c.requires.0 c.args.at.0, c.feeds_owe-printers.ensures.1, modest) in
-    let soon : c.ticks_since.result.0 < 2 ^ 63 =
-    omega (arith, ap (λ l. l.0) c.ticks_since.ensures, c.requires.2.near) in
-    (soon, small)
 
 pub returns : goal.returns
 unfolding margin owed_by taking

@@ -1,13 +1,8 @@
--- `serving::foremost_feed` meets its contract: from the last feed down, the best so far is the foremost of those passed.
+-- `serving::foremost_feed` meets its contract: the best so far and the feeds that are left make the whole.
 use mathlib.Core.Path.{◌≡◌}
-use Prim.Native.Nat.{suc, ◌≤◌}
-use lib.ListN.{drop}
 use Rattle.feeds.specs.Feeds.{in_use}
 use Rattle.serving.specs.Front.{foremost_over, feed_fronts, nobody_front}
 use Rattle.serving.proofs.foremost_feed.Given as goal
 
 abbrev pub invariant-loop-i : goal.invariant-loop-i
-invariant-loop-i l = (l.i ≤ l.feeds.count) × (l.best ≡ foremost_over (feed_fronts l.clock (suc l.i) (drop l.i (in_use l.feeds))) nobody_front)
-
-abbrev pub decreases-loop-i : goal.decreases-loop-i
-decreases-loop-i l = l.i
+invariant-loop-i l = (l.i-iterator.iter.count ≡ 0) × (foremost_over (feed_fronts l.clock 1 (in_use l.fn.feeds)) nobody_front ≡ foremost_over (feed_fronts l.clock 1 l.i-iterator.iter.iter.rest.now) l.best)

@@ -1,17 +1,17 @@
 -- `serving::step` meets its contract: line 3, then the tick goes to the foremost piece and the pieces that come are ready.
 use mathlib.Core.Path.{◌≡◌, sym, ap, subst, ◌∙◌}
-use mathlib.Core.Bool.{true}
+use mathlib.Core.Bool.{true, false}
 use mathlib.Core.List.{map}
 use native.Mathlib.Omega.{arith}
 use lib.Dec.{ltb}
-use borrow.Author.Tests.{not-true, not-false}
 use Rattle.lists.specs.Lists.{Each}
 use Rattle.ticks.specs.Ticks.{last_instant}
 use Rattle.feeds.specs.Feeds.{FeedIn, in_use, feeds_of, Tidy}
 use Rattle.feeds.specs.Pieces.{arrived}
 use Rattle.feeds.proofs.Passing.{in_use_of}
 use Rattle.jobs.specs.Jobs.{live}
-use Rattle.answers.specs.declared.Verdict.TheVariants.{Yes}
+use Rattle.std.specs.Prelude.{Ok}
+use Rattle.std.proofs.lemmas.Bool.Decides.{nat_tests}
 use Rattle.edf.specs.Step.{runner}
 use Rattle.ledger.specs.State.{moved}
 use Rattle.ledger.specs.Books.{book_of, who_of}
@@ -22,11 +22,10 @@ use Rattle.serving.proofs.Steps.{owing_jobs, given_feeds, given}
 use Rattle.serving.proofs.Answers.{stepped_refused, front_stepped}
 use Rattle.serving.proofs.step.Goals as goal
 
-pub returns-then-not-is_after : goal.returns-then-not-is_after
-returns-then-not-is_after c =
-    let tested : c.is_after.result ≡ ltb c.args.ledger.clock.0 last_instant =
-    c.is_after.ensures ∙ ap (λ t. ltb c.args.ledger.clock.0 t.0) c.last-last.ensures in
-    stepped_refused c.args.ledger (sym tested ∙ not-true _ c.if-not-is_after.true-raw)
+pub returns-then-ge : goal.returns-then-ge
+returns-then-ge c =
+    let late : ltb c.args.ledger.clock.0 last_instant ≡ false = grind (arith, nat_tests) in
+    stepped_refused c.args.ledger late
 
 pub serve_feeds-requires : goal.serve_feeds-requires
 serve_feeds-requires c =
@@ -46,8 +45,6 @@ serve_jobs-table-requires c = (c.requires.tidy_table, owing_jobs c.args.ledger c
 
 pub returns : goal.returns
 returns c =
-    let tested : c.is_after.result ≡ ltb c.args.ledger.clock.0 last_instant =
-    c.is_after.ensures ∙ ap (λ t. ltb c.args.ledger.clock.0 t.0) c.last-last.ensures in
     let written : c.moved.result ≡ given c.args.ledger c.foremost-front.result.who =
     let l = c.args.ledger in
     let gs = served_feeds c.foremost-front.result.who (in_use l.feeds) in
@@ -55,11 +52,6 @@ returns c =
     let served = ap in_use c.serve_feeds.ensures ∙ in_use_of gs in
     let feeds = c.arrive-feeds.ensures ∙ (λ i. feeds_of (map (arrived l.charge (clock i)) (served i))) in
     c.moved.ensures ∙ (λ i. moved l (clock i) (feeds i) (c.serve_jobs-table.ensures i)) in
-    let early : ltb c.args.ledger.clock.0 last_instant ≡ true = sym tested ∙ not-false _ c.if-not-is_after.false-raw in
-    (λ i. record {
-      ledger = written i;
-      verdict = Yes;
-      who = c.foremost-front.result.who;
-      owes = c.owes_then.ensures i;
-    })
+    let early : ltb c.args.ledger.clock.0 last_instant ≡ true = grind (arith, nat_tests) in
+    (λ i. Ok (record { ledger = written i; who = c.foremost-front.result.who; owes = c.owes_then.ensures i }))
     ∙ front_stepped c.args.ledger c.foremost-front.result c.requires c.foremost-front.ensures early

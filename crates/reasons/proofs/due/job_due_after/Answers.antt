@@ -1,19 +1,21 @@
 -- `reasons::due::job_due_after` meets its contract, by whether the deadline has come.
-use mathlib.Core.Path.{sym, ◌∙◌}
-use native.Mathlib.Nat.{le_refl}
-use borrow.Author.Tests.{ltb-true, ltb-false}
-use Rattle.jobs.specs.Figures.{owes_by}
-use Rattle.reasons.proofs.Until.{until_cut, job_still_past, job_still_before}
+use mathlib.Core.Path.{◌≡◌}
+use Prim.Native.Nat.{◌≤◌, ◌<◌}
+use native.Mathlib.Omega.{arith}
+use borrow.Author.Rules.{rules}
+use Rattle.std.proofs.lemmas.Bool.Decides.{nat_tests}
+use Rattle.ticks.specs.Ticks.{earlier_of}
+use Rattle.reasons.proofs.Until.{job_until_due, job_until_end}
 use Rattle.reasons.proofs.due.job_due_after.Goals as goal
 
-pub returns-then-is_after : goal.returns-then-is_after
-returns-then-is_after c =
+pub returns-then-gt : goal.returns-then-gt
+returns-then-gt c =
     let job = c.args.job in
-    let ahead = ltb-true c.args.by.0 job.deadline.0 (sym c.is_after.ensures ∙ c.if-is_after.true) in
-    rw c.earlier_of.ensures (until_cut (λ D. owes_by D job) _ _ _ ahead c.requires (job_still_before job _))
+    let ahead : c.args.by.0 < job.deadline.0 = grind (arith, nat_tests) in
+    let earlier : c.min.result ≡ earlier_of job.deadline c.args.till = search rules in
+    rw earlier (job_until_due job c.args.by.0 c.args.till ahead c.requires)
 
-pub returns : goal.returns
-returns c =
-    let job = c.args.job in
-    let past = ltb-false c.args.by.0 job.deadline.0 (sym c.is_after.ensures ∙ c.if-is_after.false) in
-    record { after = c.requires; within = le_refl _; still = λ E h k. job_still_past job _ past E h }
+pub returns-else-gt : goal.returns-else-gt
+returns-else-gt c =
+    let past : c.args.job.deadline.0 ≤ c.args.by.0 = grind (arith, nat_tests) in
+    job_until_end c.args.job c.args.by.0 c.args.till.0 past c.requires
