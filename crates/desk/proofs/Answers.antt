@@ -2,12 +2,14 @@
 use mathlib.Core.Path.{◌≡◌, refl, sym, ap, ◌∙◌}
 use mathlib.Core.Bool.{true, false}
 use mathlib.Core.List.{List, ◌∷◌, ◌++◌}
-use Rattle.answers.specs.declared.Verdict.TheVariants.{Yes, No}
-use Rattle.answers.specs.Answers.{Line, first_of, is_yes, on_yes}
+use Rattle.std.specs.Prelude.{Ok, Err}
+use Rattle.answers.specs.declared.Refusal.{Refusal}
+use Rattle.answers.specs.Verdicts.{Verdict}
+use Rattle.answers.specs.Answers.{Line, first_of, is_yes, on_yes, yes_with}
 use Rattle.answers.proofs.Answers.{stops, goes_on_lem, goes_past, not_yes_before, on_yes_lem, on_no}
 use Rattle.desk.specs.declared.Desk.{Desk}
 use Rattle.desk.specs.declared.Answer.{Answer}
-use Rattle.desk.specs.Answers.{answered}
+use Rattle.desk.specs.Answers.{answered, handed}
 
 module _ (new old : Desk) where
   -- lines that say the same answer the same
@@ -21,11 +23,11 @@ module _ (new old : Desk) where
       ∙ answered_alike ls (ls ++ ms) (sym (not_yes_before ls ms h))
 
   -- they pass
-  pub answered_past : (ls ms : List Line) → first_of ls ≡ Yes → answered ms new old ≡ answered (ls ++ ms) new old
+  pub answered_past : (ls ms : List Line) → first_of ls ≡ Ok tt → answered ms new old ≡ answered (ls ++ ms) new old
   answered_past ls ms y = answered_alike ms (ls ++ ms) (sym (goes_past ls ms y))
 
   -- the next line stops
-  pub answered_stopped : (l : Line) (ls : List Line) → l.holds ≡ true → ◌≡◌ {A = Answer} (record { desk = old; verdict = No l.refusal }) (answered (l ∷ ls) new old)
+  pub answered_stopped : (l : Line) (ls : List Line) → l.holds ≡ true → ◌≡◌ {A = Answer} (record { desk = old; verdict = Err l.refusal }) (answered (l ∷ ls) new old)
   answered_stopped l ls h = λ i. record { desk = on_yes (sym (stops l ls h) i) new old; verdict = sym (stops l ls h) i }
 
   -- it passes
@@ -42,3 +44,19 @@ pub made_on_yes : (f : Desk → Desk) (ls : List Line) (new old : Desk) → is_y
     → ◌≡◌ {A = Answer} (record { desk = f (answered ls new old).desk; verdict = first_of ls }) (answered ls (f new) old)
 made_on_yes f ls new old h =
     λ i. record { desk = (ap f (on_yes_lem (first_of ls) new old h) ∙ sym (on_yes_lem (first_of ls) (f new) old h)) i; verdict = first_of ls }
+
+-- a refusal, and a yes, as they are handed back
+module _ (ls : List Line) (new old : Desk) where
+  pub handed_no : (r : Refusal) → first_of ls ≡ Err r → handed old (Err r) ≡ answered ls new old
+  handed_no r e = λ i. record { desk = on_yes (sym e i) new old; verdict = sym e i }
+
+  pub handed_yes : first_of ls ≡ Ok tt → handed old (Ok new) ≡ answered ls new old
+  handed_yes e = λ i. record { desk = on_yes (sym e i) new old; verdict = sym e i }
+
+-- what the lines tell, as it is handed back
+pub handed_told : (ls : List Line) (new old : Desk) → handed old (yes_with (first_of ls) new) ≡ answered ls new old
+handed_told ls new old = go (first_of ls)
+  where
+    go : (v : Verdict) → ◌≡◌ {A = Answer} (handed old (yes_with v new)) (record { desk = on_yes v new old; verdict = v })
+    go (Ok tt) = refl
+    go (Err r) = refl

@@ -1,7 +1,7 @@
 -- Asking for a job: what the lines let pass, what is then judged, and that the contract leaves one outcome.
 use mathlib.Core.Path.{◌≡◌, refl, sym, ap, ◌∙◌, subst}
 use mathlib.Core.Logic.{inl, inr}
-use mathlib.Core.Bool.{true, false, false≢true}
+use mathlib.Core.Bool.{false, false≢true}
 use mathlib.Core.List.{[], ◌∷◌, ◌++◌, map}
 use Prim.Native.Nat.{ℕ, ◌<◌}
 use native.Mathlib.Omega.{arith}
@@ -13,7 +13,7 @@ use Rattle.ticks.specs.Ticks.{most_job, job_length, ticks}
 use Rattle.ticks.proofs.Tests.{from_one_lem}
 use Rattle.jobs.specs.declared.Job.{Job}
 use Rattle.jobs.specs.declared.Table.{Table}
-use Rattle.jobs.specs.Jobs.{most_jobs, no_job, table_of, Tidy, JobsIn, live}
+use Rattle.jobs.specs.Jobs.{most_jobs, table_of, Tidy, JobsIn, live}
 use Rattle.jobs.specs.Figures.{Modest, Figured, figured}
 use Rattle.jobs.specs.Sorted.{Sorted, insert}
 use Rattle.jobs.proofs.Sorted.{insert_same}
@@ -22,10 +22,10 @@ use Rattle.jobs.proofs.Places.{live_of, live_count, tidy_of, jobs_in_taken}
 use Rattle.edf.specs.Calls.{taking}
 use Rattle.edf.specs.Reordered.{Reordered}
 use Rattle.answers.specs.declared.Refusal.{Refusal}
-use Rattle.answers.specs.declared.Verdict.{Verdict}
-use Rattle.answers.specs.declared.Verdict.TheVariants.{Yes, No}
-use Rattle.answers.specs.Answers.{first_of, is_yes}
-use Rattle.answers.proofs.Answers.{yes_first, yes_both, yes_is_not_no, on_yes_lem, on_no}
+use Rattle.answers.specs.Verdicts.{Verdict}
+use Rattle.std.specs.Prelude.{Ok, Err}
+use Rattle.answers.specs.Answers.{first_of, is_yes, yes_with}
+use Rattle.answers.proofs.Answers.{yes_first, yes_both, yes_is_not_no, told_no, told_yes}
 use Rattle.ledger.specs.declared.Ledger.{Ledger}
 use Rattle.ledger.specs.State.{Sized, InOrder, moved}
 use Rattle.ledger.specs.Books.{book_job, book_of}
@@ -34,13 +34,12 @@ use Rattle.desk.proofs.InOrder.{in_order_lem}
 use Rattle.room.proofs.Owed.{jobs_modest}
 use Rattle.desk.specs.declared.Desk.{Desk}
 use Rattle.desk.specs.declared.Answer.{Answer}
-use Rattle.desk.specs.declared.Request.{Request}
 use Rattle.desk.specs.Calls.{disorder}
 use Rattle.desk.specs.Asking.{request_lines, place_lines, ask_lines, requested, request_of, with_job, Admissible, Judged, Asked}
 use Rattle.desk.proofs.Calls.{jobs_append}
 
 -- A REQUEST THAT NO OTHER LINE STOPS
-pub admissible : (d : Desk) (number work lead : ℕ) → Sized d.ledger → first_of (ask_lines d number (ticks work) (ticks lead)) ≡ Yes
+pub admissible : (d : Desk) (number work lead : ℕ) → Sized d.ledger → first_of (ask_lines d number (ticks work) (ticks lead)) ≡ Ok tt
     → Admissible d (requested d number work lead)
 admissible d number work lead s e =
     let l = d.ledger in
@@ -115,21 +114,28 @@ module _ (d : Desk) (j : Job) (a : Admissible d j) (t : Table) (e : t ≡ table_
       }
 
 -- the request as the lines leave it: refused, or the job
-module _ (d : Desk) (number work lead : ℕ) (v : Verdict) (says : v ≡ first_of (ask_lines d number (ticks work) (ticks lead))) where
-  pub refused_request : is_yes v ≡ false → ◌≡◌ {A = Request} (record { verdict = v; job = no_job }) (request_of d number work lead)
+module _ (d : Desk) (number work lead : ℕ) where
+  pub refused_request : (x : Refusal) → first_of (ask_lines d number (ticks work) (ticks lead)) ≡ Err x → Err x ≡ request_of d number work lead
   unfolding request_of
-  refused_request n =
-      λ i. record { verdict = says i; job = sym (on_no (first_of (ask_lines d number (ticks work) (ticks lead))) (requested d number work lead) no_job (ap is_yes (sym says) ∙ n)) i }
+  refused_request x e = ap (λ v. yes_with v (requested d number work lead)) (sym e)
 
-  pub passed_request : is_yes v ≡ true → ◌≡◌ {A = Request} (record { verdict = v; job = requested d number work lead }) (request_of d number work lead)
+  pub passed_request : first_of (ask_lines d number (ticks work) (ticks lead)) ≡ Ok tt → Ok (requested d number work lead) ≡ request_of d number work lead
   unfolding request_of
-  passed_request y =
-      λ i. record { verdict = says i; job = sym (on_yes_lem (first_of (ask_lines d number (ticks work) (ticks lead))) (requested d number work lead) no_job (ap is_yes (sym says) ∙ y)) i }
+  passed_request e = ap (λ v. yes_with v (requested d number work lead)) (sym e)
+
+  -- and back
+  pub request_refused : (x : Refusal) → request_of d number work lead ≡ Err x → first_of (ask_lines d number (ticks work) (ticks lead)) ≡ Err x
+  unfolding request_of
+  request_refused x e = told_no _ _ x e
+
+  pub request_passed : (j : Job) → request_of d number work lead ≡ Ok j → (first_of (ask_lines d number (ticks work) (ticks lead)) ≡ Ok tt) × (j ≡ requested d number work lead)
+  unfolding request_of
+  request_passed j e = told_yes _ _ j e
 
 module _ (d : Desk) (number work lead : ℕ) where
   -- an ask that a line stops
-  pub stopped_asked : (x : Refusal) → first_of (ask_lines d number (ticks work) (ticks lead)) ≡ No x
-      → Asked d number work lead (record { desk = d; verdict = No x })
+  pub stopped_asked : (x : Refusal) → first_of (ask_lines d number (ticks work) (ticks lead)) ≡ Err x
+      → Asked d number work lead (record { desk = d; verdict = Err x })
   stopped_asked x e =
       record {
         stopped = λ y f. λ i. record { desk = d; verdict = (sym e ∙ f) i };
@@ -142,21 +148,21 @@ module _ (d : Desk) (number work lead : ℕ) where
   not_yes_asked v e n = go v e (ap is_yes e ∙ n)
     where
       go : (w : Verdict) → w ≡ first_of (ask_lines d number (ticks work) (ticks lead)) → is_yes w ≡ false → Asked d number work lead (record { desk = d; verdict = w })
-      go Yes f k = absurd (false≢true (sym k))
-      go (No x) f k = stopped_asked x (sym f)
+      go (Ok tt) f k = absurd (false≢true (sym k))
+      go (Err x) f k = stopped_asked x (sym f)
 
   -- an ask that is judged
-  pub judged_asked : (r : Answer) → first_of (ask_lines d number (ticks work) (ticks lead)) ≡ Yes
+  pub judged_asked : (r : Answer) → first_of (ask_lines d number (ticks work) (ticks lead)) ≡ Ok tt
       → Judged d (requested d number work lead) r → Asked d number work lead r
   judged_asked r e j = record { stopped = λ y f. absurd (yes_is_not_no y (sym e ∙ f)); judged = λ f. j }
 
   -- a yes: no line stopped it
-  pub said_yes : (r : Answer) → Asked d number work lead r → r.verdict ≡ Yes → first_of (ask_lines d number (ticks work) (ticks lead)) ≡ Yes
+  pub said_yes : (r : Answer) → Asked d number work lead r → r.verdict ≡ Ok tt → first_of (ask_lines d number (ticks work) (ticks lead)) ≡ Ok tt
   said_yes r a y = go (first_of (ask_lines d number (ticks work) (ticks lead))) refl
     where
-      go : (v : Verdict) → first_of (ask_lines d number (ticks work) (ticks lead)) ≡ v → first_of (ask_lines d number (ticks work) (ticks lead)) ≡ Yes
-      go Yes e = e
-      go (No x) e = absurd (yes_is_not_no x (sym y ∙ ap (λ k. k.verdict) (a.stopped x e)))
+      go : (v : Verdict) → first_of (ask_lines d number (ticks work) (ticks lead)) ≡ v → first_of (ask_lines d number (ticks work) (ticks lead)) ≡ Ok tt
+      go (Ok tt) e = e
+      go (Err x) e = absurd (yes_is_not_no x (sym y ∙ ap (λ k. k.verdict) (a.stopped x e)))
 
 -- TWO OUTCOMES THAT THE CONTRACT ALLOWS ARE THE SAME
 judged_once : (d : Desk) (j : Job) (r s : Answer) → Judged d j r → Judged d j s → r ≡ s
@@ -170,5 +176,5 @@ pub asked_once : (d : Desk) (number work lead : ℕ) (r s : Answer) → Asked d 
 asked_once d number work lead r s a b = go (first_of (ask_lines d number (ticks work) (ticks lead))) refl
   where
     go : (v : Verdict) → first_of (ask_lines d number (ticks work) (ticks lead)) ≡ v → r ≡ s
-    go Yes e = judged_once d (requested d number work lead) r s (a.judged e) (b.judged e)
-    go (No x) e = a.stopped x e ∙ sym (b.stopped x e)
+    go (Ok tt) e = judged_once d (requested d number work lead) r s (a.judged e) (b.judged e)
+    go (Err x) e = a.stopped x e ∙ sym (b.stopped x e)

@@ -25,17 +25,16 @@ use Rattle.ticks.specs.Ticks.{ticks}
 use Rattle.edf.specs.Step.{ran, step}
 use Rattle.answers.specs.declared.Who.TheVariants.{Idle}
 use Rattle.answers.specs.declared.Refusal.TheVariants.{NotInOrder}
-use Rattle.answers.specs.declared.Verdict.{Verdict}
-use Rattle.answers.specs.declared.Verdict.TheVariants.{Yes, No}
-use Rattle.answers.specs.Answers.{first_of, on_yes}
+use Rattle.answers.specs.Verdicts.{Verdict}
+use Rattle.std.specs.Prelude.{Ok, Err}
+use Rattle.answers.specs.Answers.{first_of, on_yes, yes_with}
 use Rattle.answers.proofs.Answers.{stops, goes_on_lem}
-use Rattle.serving.specs.declared.Stepped as serving
-use Rattle.serving.specs.Tick.{last_line, stepped_of}
+use Rattle.serving.specs.Tick.{last_line, stepped, stepped_of}
 use Rattle.desk.specs.State.{in_order}
 use Rattle.desk.specs.declared.Desk.{Desk}
 use Rattle.desk.specs.declared.Stepped.{Stepped}
 use Rattle.desk.specs.State as desk
-use Rattle.desk.specs.Calls.{disorder, step_lines, step_of}
+use Rattle.desk.specs.Calls.{disorder, step_lines, stepped_desk, step_of}
 
 -- the jobs of other numbers
 others_read : (n : ℕ) (js : List Job) → map book_job (others n js) ≡ keep (λ j. not (eqb n j.number)) (map book_job js)
@@ -84,22 +83,20 @@ module _ (l : Ledger) (h : InOrder l) where
       let js = live l.table in
       λ i. moved l l.clock (feeds_back i) (jobs_made t (insert j js) (js ++ (j ∷ [])) (taking (book_job j) (book_of l)).jobs e (sorted_taken js j h.jobs.order h.jobs.once free) (jobs_append js j) i)
 
--- a step of a state that is not in order
-pub step_stopped : (d : Desk) → in_order d ≡ false
-    → ◌≡◌ {A = Stepped} (record { desk = d; verdict = No NotInOrder; who = Idle; owes = ticks 0 }) (step_of d)
-unfolding step_of
-step_stopped d out =
-    let says : first_of (step_lines d) ≡ No NotInOrder = stops (disorder d) (last_line d.ledger ∷ []) (ap not out) in
-    λ i. record {
-      desk = on_yes (sym says i) (desk.rewritten d (step (desk.book d))) d;
-      verdict = sym says i;
-      who = on_yes (sym says i) (who_is (ran (desk.book d)).who) Idle;
-      owes = on_yes (sym says i) (ticks (ran (desk.book d)).owes) (ticks 0);
+-- what a step hands back, by its verdict
+abbrev told : Desk → Verdict → Stepped
+told d v =
+    record {
+      desk = on_yes v (desk.rewritten d (step (desk.book d))) d;
+      verdict = v;
+      who = on_yes v (who_is (ran (desk.book d)).who) Idle;
+      owes = on_yes v (ticks (ran (desk.book d)).owes) (ticks 0);
     }
 
--- what a desk answers of a step below it
-abbrev pub stepped_desk : Desk → serving.Stepped → Stepped
-stepped_desk d s = record { desk = desk.with d s.ledger; verdict = s.verdict; who = s.who; owes = s.owes }
+-- a step of a state that is not in order
+pub step_stopped : (d : Desk) → in_order d ≡ false → stepped_desk d (Err NotInOrder) ≡ step_of d
+unfolding step_of
+step_stopped d out = sym (ap (told d) (stops (disorder d) (last_line d.ledger ∷ []) (ap not out)))
 
 -- a step of a state in order is the step below
 pub step_by_serving : (d : Desk) → in_order d ≡ true → stepped_desk d (stepped_of d.ledger) ≡ step_of d
@@ -107,14 +104,8 @@ unfolding step_of stepped_of
 step_by_serving d fine =
     let l = d.ledger in
     let says : first_of (step_lines d) ≡ first_of (last_line l ∷ []) = goes_on_lem (disorder d) (last_line l ∷ []) (first_of (last_line l ∷ [])) (ap not fine) refl in
-    (λ i. record { desk = with_either (first_of (last_line l ∷ [])) i; verdict = first_of (last_line l ∷ []); who = on_yes (first_of (last_line l ∷ [])) (who_is (ran (desk.book d)).who) Idle; owes = on_yes (first_of (last_line l ∷ [])) (ticks (ran (desk.book d)).owes) (ticks 0) })
-    ∙ (λ i. record {
-      desk = on_yes (sym says i) (desk.rewritten d (step (desk.book d))) d;
-      verdict = sym says i;
-      who = on_yes (sym says i) (who_is (ran (desk.book d)).who) Idle;
-      owes = on_yes (sym says i) (ticks (ran (desk.book d)).owes) (ticks 0);
-    })
+    by_verdict (first_of (last_line l ∷ [])) ∙ ap (told d) (sym says)
   where
-    with_either : (v : Verdict) → desk.with d (on_yes v (rewritten d.ledger (step (book_of d.ledger))) d.ledger) ≡ on_yes v (desk.rewritten d (step (desk.book d))) d
-    with_either Yes = refl
-    with_either (No r) = refl
+    by_verdict : (v : Verdict) → stepped_desk d (yes_with v (stepped d.ledger)) ≡ told d v
+    by_verdict (Ok tt) = refl
+    by_verdict (Err r) = refl

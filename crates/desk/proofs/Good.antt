@@ -17,8 +17,8 @@ use Rattle.edf.specs.Load.{Sound}
 use Rattle.edf.proofs.Sound.{step_is_sound}
 use Rattle.edf.proofs.Calls.{taking_is_sound, ending_is_sound, resting_is_sound}
 use Rattle.answers.specs.declared.Refusal.{Refusal}
-use Rattle.answers.specs.declared.Verdict.{Verdict}
-use Rattle.answers.specs.declared.Verdict.TheVariants.{Yes, No}
+use Rattle.answers.specs.Verdicts.{Verdict}
+use Rattle.std.specs.Prelude.{Ok, Err}
 use Rattle.answers.specs.Answers.{first_of, on_yes}
 use Rattle.answers.proofs.Answers.{yes_first, yes_is_not_no}
 use Rattle.serving.specs.Tick.{last_line}
@@ -58,9 +58,9 @@ use Rattle.desk.proofs.Reachable.{
 }
 
 -- what is handed back by an answer is good on a yes and on a refusal
-either : (v : Verdict) (new old : Desk) → Good old → (v ≡ Yes → Good new) → Good (on_yes v new old)
-either Yes new old g h = h refl
-either (No x) new old g h = g
+either : (v : Verdict) (new old : Desk) → Good old → (v ≡ Ok tt → Good new) → Good (on_yes v new old)
+either (Ok tt) new old g h = h refl
+either (Err x) new old g h = g
 
 -- AN OPENING; a refused one hands back the empty state
 pub opening_is_good : (xs : List ℕ) (start charge : ℕ) → Good (opened_of xs start charge).desk
@@ -93,7 +93,7 @@ module _ (d : Desk) (g : Good d) where
   written b s h = let k = good_beside d g in good_rewritten d.ledger b (good_order d g) h (rewritten d b) refl (record { share = k.share; previous = k.previous }) s
 
   -- the desk that a yes hands back is read as the book that was written into it
-  read : (b : Book) (v : Verdict) → Held d.ledger b → InTableOrder b → v ≡ Yes → book (on_yes v (rewritten d b) d) ≡ b
+  read : (b : Book) (v : Verdict) → Held d.ledger b → InTableOrder b → v ≡ Ok tt → book (on_yes v (rewritten d b) d) ≡ b
   read b v h o e = ap (λ w. book (on_yes w (rewritten d b) d)) e ∙ book_of_rewritten_own d.ledger b h.feeds o
 
   stands : InTableOrder (book d)
@@ -103,7 +103,7 @@ module _ (d : Desk) (g : Good d) where
   stepped : Sound (step (book d))
   stepped = step_is_sound (book d) g.sound
 
-  step_held : first_of (step_lines d) ≡ Yes → Held d.ledger (step (book d))
+  step_held : first_of (step_lines d) ≡ Ok tt → Held d.ledger (step (book d))
   step_held e =
       let last = yes_first (last_line d.ledger) [] (yes_first (disorder d) _ e).1 in
       held_step d.ledger (book d) (good_held d g) stepped (ltb-true _ _ (not-false _ last.0))
@@ -112,7 +112,7 @@ module _ (d : Desk) (g : Good d) where
   unfolding step_of
   step_is_good = either (first_of (step_lines d)) (rewritten d (step (book d))) d g (λ e. written (step (book d)) stepped (step_held e))
 
-  pub step_book : first_of (step_lines d) ≡ Yes → book (step_of d).desk ≡ step (book d)
+  pub step_book : first_of (step_lines d) ≡ Ok tt → book (step_of d).desk ≡ step (book d)
   unfolding step_of
   step_book e = read (step (book d)) (first_of (step_lines d)) (step_held e) (step_in_table_order (book d) stands) e
 
@@ -127,7 +127,7 @@ module _ (d : Desk) (g : Good d) where
   unfolding end_of
   end_is_good n = either (first_of (end_lines d n)) (rewritten d (ending n (book d))) d g (λ e. written (ending n (book d)) (ended n) (end_held n))
 
-  pub end_book : (n : ℕ) → first_of (end_lines d n) ≡ Yes → book (end_of d n).desk ≡ ending n (book d)
+  pub end_book : (n : ℕ) → first_of (end_lines d n) ≡ Ok tt → book (end_of d n).desk ≡ ending n (book d)
   unfolding end_of
   end_book n e = read (ending n (book d)) (first_of (end_lines d n)) (end_held n) (ending_in_table_order (book d) n stands) e
 
@@ -142,7 +142,7 @@ module _ (d : Desk) (g : Good d) where
   unfolding rest_of
   rest_is_good p = either (first_of (rest_lines d p)) (rewritten d (resting p (book d))) d g (λ e. written (resting p (book d)) (rested p) (rest_held p))
 
-  pub rest_book : (p : ℕ) → first_of (rest_lines d p) ≡ Yes → book (rest_of d p).desk ≡ resting p (book d)
+  pub rest_book : (p : ℕ) → first_of (rest_lines d p) ≡ Ok tt → book (rest_of d p).desk ≡ resting p (book d)
   unfolding rest_of
   rest_book p e = read (resting p (book d)) (first_of (rest_lines d p)) (rest_held p) (resting_in_table_order (book d) p stands) e
 
@@ -158,7 +158,7 @@ module _ (d : Desk) (g : Good d) where
   judged_is_good j r a (inl y) = subst (λ x. Good x.desk) (sym y.1) (written (with_job d j) (taken j a y.0) (take_held j a y.0))
   judged_is_good j r a (inr n) = subst (λ x. Good x.desk) (sym n.1) g
 
-  judged_book : (j : Job) (r : Answer) → Admissible d j → Judged d j r → r.verdict ≡ Yes → Reordered (with_job d j) (book r.desk)
+  judged_book : (j : Job) (r : Answer) → Admissible d j → Judged d j r → r.verdict ≡ Ok tt → Reordered (with_job d j) (book r.desk)
   unfolding Judged
   judged_book j r a (inl y) e = subst (λ x. Reordered (with_job d j) (book x.desk)) (sym y.1) (book_of_rewritten d.ledger (with_job d j) (take_held j a y.0).feeds)
   judged_book j r a (inr n) e = absurd (yes_is_not_no _ (sym e ∙ ap (λ x. x.verdict) n.1))
@@ -168,40 +168,40 @@ module _ (d : Desk) (g : Good d) (number work lead : ℕ) (r : Answer) (a : Aske
   ask_is_good = go (first_of (ask_lines d number (ticks work) (ticks lead))) refl
     where
       go : (v : Verdict) → first_of (ask_lines d number (ticks work) (ticks lead)) ≡ v → Good r.desk
-      go Yes e = judged_is_good d g (requested d number work lead) r (admissible d number work lead g.sized e) (a.judged e)
-      go (No x) e = subst (λ k. Good k.desk) (sym (a.stopped x e)) g
+      go (Ok tt) e = judged_is_good d g (requested d number work lead) r (admissible d number work lead g.sized e) (a.judged e)
+      go (Err x) e = subst (λ k. Good k.desk) (sym (a.stopped x e)) g
 
-  pub ask_book : r.verdict ≡ Yes → Reordered (with_job d (requested d number work lead)) (book r.desk)
+  pub ask_book : r.verdict ≡ Ok tt → Reordered (with_job d (requested d number work lead)) (book r.desk)
   ask_book y =
       let e = said_yes d number work lead r a y in
       judged_book d g (requested d number work lead) r (admissible d number work lead g.sized e) (a.judged e) y
 
 -- a refused one hands back the state as it was, on any desk
-judged_refused : (d : Desk) (j : Job) (r : Answer) (x : Refusal) → Judged d j r → r.verdict ≡ No x → r.desk ≡ d
+judged_refused : (d : Desk) (j : Job) (r : Answer) (x : Refusal) → Judged d j r → r.verdict ≡ Err x → r.desk ≡ d
 unfolding Judged
 judged_refused d j r x (inl y) e = absurd (yes_is_not_no x (sym (ap (λ a. a.verdict) y.1) ∙ e))
 judged_refused d j r x (inr n) e = ap (λ a. a.desk) n.1
 
-pub ask_refused : (d : Desk) (number work lead : ℕ) (r : Answer) → Asked d number work lead r → (x : Refusal) → r.verdict ≡ No x → r.desk ≡ d
+pub ask_refused : (d : Desk) (number work lead : ℕ) (r : Answer) → Asked d number work lead r → (x : Refusal) → r.verdict ≡ Err x → r.desk ≡ d
 ask_refused d number work lead r a x n = go (first_of (ask_lines d number (ticks work) (ticks lead))) refl
   where
     go : (v : Verdict) → first_of (ask_lines d number (ticks work) (ticks lead)) ≡ v → r.desk ≡ d
-    go Yes e = judged_refused d (requested d number work lead) r x (a.judged e) n
-    go (No y) e = ap (λ k. k.desk) (a.stopped y e)
+    go (Ok tt) e = judged_refused d (requested d number work lead) r x (a.judged e) n
+    go (Err y) e = ap (λ k. k.desk) (a.stopped y e)
 
 -- AN ASK WITH NO DATE
 module _ (d : Desk) (number work : ℕ) (r : Answer) (a : AskedUndated d number work r) where
-  pub undated_refused : (x : Refusal) → r.verdict ≡ No x → r.desk ≡ d
+  pub undated_refused : (x : Refusal) → r.verdict ≡ Err x → r.desk ≡ d
   undated_refused x n = go (first_of (undated_lines d number)) refl
     where
       go : (v : Verdict) → first_of (undated_lines d number) ≡ v → r.desk ≡ d
-      go Yes e =
+      go (Ok tt) e =
           let (b, k, f) = a.asked e in
-          let no : b.verdict ≡ No x = sym (ap (λ q. q.verdict) f) ∙ n in
+          let no : b.verdict ≡ Err x = sym (ap (λ q. q.verdict) f) ∙ n in
           ap (λ q. q.desk) f
           ∙ ap (λ v. on_yes v (since (instant (undated_deadline d work)) b.desk) b.desk) no
           ∙ ask_refused d number work (undated_lead d work) b k x no
-      go (No y) e = ap (λ q. q.desk) (a.stopped y e)
+      go (Err y) e = ap (λ q. q.desk) (a.stopped y e)
 
   module _ (g : Good d) where
     abbrev lead : ℕ
@@ -211,7 +211,7 @@ module _ (d : Desk) (number work : ℕ) (r : Answer) (a : AskedUndated d number 
     undated_is_good = go r.verdict refl
       where
         go : (v : Verdict) → r.verdict ≡ v → Good r.desk
-        go Yes y =
+        go (Ok tt) y =
             let (b, k, said, same, s) = undated_yes d number work r a y in
             let p = admissible d number work lead g.sized (said_yes d number work lead b k said) in
             let h = ask_is_good d g number work lead b k in
@@ -224,9 +224,9 @@ module _ (d : Desk) (number work : ℕ) (r : Answer) (a : AskedUndated d number 
                   (good_order b.desk h);
               sound = h.sound;
             })
-        go (No x) n = subst Good (sym (undated_refused x n)) g
+        go (Err x) n = subst Good (sym (undated_refused x n)) g
 
-    pub undated_book : r.verdict ≡ Yes → Reordered (with_job d (requested d number work (undated_lead d work))) (book r.desk)
+    pub undated_book : r.verdict ≡ Ok tt → Reordered (with_job d (requested d number work (undated_lead d work))) (book r.desk)
     undated_book y =
         let (b, k, said, same, s) = undated_yes d number work r a y in
         subst (λ e. Reordered (with_job d (requested d number work lead)) (book e)) (sym same) (ask_book d g number work lead b k said)

@@ -30,7 +30,7 @@ use Rattle.ledger.specs.State.{in_order as ledger_in_order}
 use Rattle.ledger.specs.Books.{book_feeds, book_job, book_of, who_is}
 use Rattle.serving.specs.Tick.{last_line}
 use Rattle.answers.specs.declared.Who.TheVariants.{Job, Feed, Idle}
-use Rattle.answers.specs.declared.Verdict.TheVariants.{Yes}
+use Rattle.std.specs.Prelude.{Ok}
 use Rattle.answers.specs.Answers.{on_yes}
 use Rattle.answers.proofs.Answers.{yes_first}
 use Rattle.desk.specs.declared.Desk.{Desk}
@@ -39,16 +39,16 @@ use Rattle.desk.specs.Calls.{disorder, step_of}
 use Rattle.desk.specs.Named.{Named}
 
 -- WHEN A STEP SAYS YES: the desk is in order, and the clock is before its last instant
-pub step_in_order : (d : Desk) → (step_of d).verdict ≡ Yes → in_order d ≡ true
+pub step_in_order : (d : Desk) → (step_of d).verdict ≡ Ok tt → in_order d ≡ true
 unfolding step_of
 step_in_order d e = not-false _ (yes_first (disorder d) _ e).0
 
-pub step_in_time : (d : Desk) → (step_of d).verdict ≡ Yes → d.ledger.clock.0 < last_instant
+pub step_in_time : (d : Desk) → (step_of d).verdict ≡ Ok tt → d.ledger.clock.0 < last_instant
 unfolding step_of
 step_in_time d e = ltb-true _ _ (not-false _ (yes_first (last_line d.ledger) [] (yes_first (disorder d) _ e).1).0)
 
 -- THE CLOCK goes on by one
-pub step_clock : (d : Desk) → (step_of d).verdict ≡ Yes → (step_of d).desk.ledger.clock.0 ≡ d.ledger.clock.0 + 1
+pub step_clock : (d : Desk) → (step_of d).verdict ≡ Ok tt → (step_of d).desk.ledger.clock.0 ≡ d.ledger.clock.0 + 1
 unfolding step_of
 step_clock d e = omega (arith, ap (λ v. (on_yes v (rewritten d (step (book d))) d).ledger.clock.0) e, book_clock (book d))
 
@@ -90,7 +90,7 @@ runner_named d h =
     (hand_each (λ p. Named (who_is p.who)) (book d) (state_jobs_named l fine) (state_feeds_named l fine))
 
 -- WHOM A STEP NAMES: a job by a number of at least 1, a feed by a position from 1 to 16, or nobody
-pub step_names : (d : Desk) → (step_of d).verdict ≡ Yes → Named (step_of d).who
+pub step_names : (d : Desk) → (step_of d).verdict ≡ Ok tt → Named (step_of d).who
 unfolding step_of ran
 step_names d e =
     subst (λ v. Named (on_yes v (who_is (runner (book d)).who) Idle)) (sym e) (runner_named d (step_in_order d e))

@@ -16,7 +16,7 @@ use Rattle.feeds.specs.Pieces.{arrived}
 use Rattle.feeds.proofs.Passing.{in_use_of}
 use Rattle.feeds.proofs.Lent.{read_passing}
 use Rattle.edf.specs.Load.{opened, opened_feed}
-use Rattle.answers.specs.declared.Verdict.TheVariants.{Yes}
+use Rattle.std.specs.Prelude.{Ok}
 use Rattle.answers.specs.Answers.{first_of}
 use Rattle.answers.proofs.Answers.{yes_both, yes_first}
 use Rattle.shares.specs.Shares.{share, is_share}
@@ -37,7 +37,7 @@ opened_ledger fs charge clock z =
 
 module _ (xs : List ℕ) (start charge : ℕ) where
   -- what lines 12, 8, 3 and 18 let pass
-  pub front_passes : first_of (front_lines xs start charge) ≡ Yes → (first_of (shape_lines (length xs)) ≡ Yes) × (start ≤ last_instant) × (charge ≤ most_charge)
+  pub front_passes : first_of (front_lines xs start charge) ≡ Ok tt → (first_of (shape_lines (length xs)) ≡ Ok tt) × (start ≤ last_instant) × (charge ≤ most_charge)
   front_passes e =
       let t = yes_both (shape_lines (length xs)) (start_line start ∷ charge_line charge ∷ []) e in
       let u = yes_first (start_line start) (charge_line charge ∷ []) t.1 in
@@ -45,15 +45,15 @@ module _ (xs : List ℕ) (start charge : ℕ) where
       (t.0, leb-true _ _ (not-false _ u.0), leb-true _ _ (not-false _ w.0))
 
   -- where no line holds, the feeds pass, the charge is within its limit and the clock can read the instant
-  passed : first_of (front_lines xs start charge) ≡ Yes → first_of (feed_lines (ticks charge) (feeds_in xs)) ≡ Yes
+  passed : first_of (front_lines xs start charge) ≡ Ok tt → first_of (feed_lines (ticks charge) (feeds_in xs)) ≡ Ok tt
       → Passing (ticks charge) (feeds_in xs) × (charge ≤ most_charge) × (start ≤ last_instant)
   passed e f = let t = front_passes e in (read_passing xs (ticks charge) t.0 f, t.2, t.1)
 
-  pub opening_passes : first_of (open_lines xs start charge) ≡ Yes → Passing (ticks charge) (feeds_in xs) × (charge ≤ most_charge) × (start ≤ last_instant)
+  pub opening_passes : first_of (open_lines xs start charge) ≡ Ok tt → Passing (ticks charge) (feeds_in xs) × (charge ≤ most_charge) × (start ≤ last_instant)
   opening_passes e = let t = yes_both (front_lines xs start charge) (feed_lines (ticks charge) (feeds_in xs)) e in passed t.0 t.1
 
   -- and where a share is carried, it is one
-  pub shared_passes : (p q : ℕ) → first_of (shared_lines xs start charge p q) ≡ Yes
+  pub shared_passes : (p q : ℕ) → first_of (shared_lines xs start charge p q) ≡ Ok tt
       → (is_share (share p q) ≡ true) × Passing (ticks charge) (feeds_in xs) × (charge ≤ most_charge) × (start ≤ last_instant)
   shared_passes p q e =
       let t = yes_both (front_lines xs start charge) (share_line (share p q) ∷ feed_lines (ticks charge) (feeds_in xs)) e in

@@ -5,7 +5,7 @@ use Rattle.ticks.specs.declared.Length.{Length}
 use Rattle.ticks.specs.Ticks.{job_length, within, ticks, plus}
 use Rattle.jobs.specs.declared.Job.{Job}
 use Rattle.jobs.specs.declared.Table.{Table}
-use Rattle.jobs.specs.Jobs.{most_jobs, no_job, job, lacks, times, JobIn, live}
+use Rattle.jobs.specs.Jobs.{most_jobs, job, lacks, times, JobIn, live}
 use Rattle.edf.specs.Book.{Book}
 use Rattle.edf.specs.Fits.{Fits}
 use Rattle.edf.specs.Calls.{taking}
@@ -13,11 +13,10 @@ use Rattle.ledger.specs.State.{Sized}
 use Rattle.ledger.specs.Books.{book_job}
 use Rattle.desk.specs.declared.Desk.{Desk}
 use Rattle.desk.specs.declared.Answer.{Answer}
-use Rattle.desk.specs.declared.Request.{Request}
 use Rattle.answers.specs.declared.Refusal.{Refusal}
 use Rattle.answers.specs.declared.Refusal.TheVariants.{NumberZero, Outside, PastLast, NumberLive, Full, DoesNotFit}
-use Rattle.answers.specs.declared.Verdict.TheVariants.{Yes, No}
-use Rattle.answers.specs.Answers.{Line, line, first_of, on_yes}
+use Rattle.std.specs.Prelude.{Result, Ok, Err}
+use Rattle.answers.specs.Answers.{Line, line, first_of, yes_with}
 use Rattle.desk.specs.Calls.{disorder}
 use Rattle.desk.specs.State.{book, rewritten, in_order}
 
@@ -48,12 +47,8 @@ abbrev pub requested : Desk → ℕ → ℕ → ℕ → Job
 requested d number work lead = job number (ticks (work + d.ledger.charge.0)) (plus d.ledger.clock (ticks lead))
 
 -- the request as lines 13 and 1 to 5 leave it
-unfoldable pub request_of : Desk → ℕ → ℕ → ℕ → Request
-request_of d number work lead =
-    record {
-      verdict = first_of (ask_lines d number (ticks work) (ticks lead));
-      job = on_yes (first_of (ask_lines d number (ticks work) (ticks lead))) (requested d number work lead) no_job;
-    }
+unfoldable pub request_of : Desk → ℕ → ℕ → ℕ → Result Job Refusal
+request_of d number work lead = yes_with (first_of (ask_lines d number (ticks work) (ticks lead))) (requested d number work lead)
 
 -- the book with the job that is asked for
 abbrev pub with_job : Desk → Job → Book
@@ -70,12 +65,12 @@ pub record Admissible (d : Desk) (j : Job) : Type 0 where
 -- line 6, by fits itself: it fits and is taken, or it does not and is refused, the state as it was
 unfoldable pub Judged : Desk → Job → Answer → Type 0
 Judged d j r =
-    (Fits (with_job d j) × (r ≡ record { desk = rewritten d (with_job d j); verdict = Yes }))
-    ⊎ ((Fits (with_job d j) → ⊥) × (r ≡ record { desk = d; verdict = No DoesNotFit }))
+    (Fits (with_job d j) × (r ≡ record { desk = rewritten d (with_job d j); verdict = Ok tt }))
+    ⊎ ((Fits (with_job d j) → ⊥) × (r ≡ record { desk = d; verdict = Err DoesNotFit }))
 
 -- the answer of an ask, and the state that it hands back
 pub record Asked (d : Desk) (number work lead : ℕ) (r : Answer) : Type 0 where
-  pub stopped : (x : Refusal) → first_of (ask_lines d number (ticks work) (ticks lead)) ≡ No x
-      → r ≡ record { desk = d; verdict = No x }
-  pub judged : first_of (ask_lines d number (ticks work) (ticks lead)) ≡ Yes
+  pub stopped : (x : Refusal) → first_of (ask_lines d number (ticks work) (ticks lead)) ≡ Err x
+      → r ≡ record { desk = d; verdict = Err x }
+  pub judged : first_of (ask_lines d number (ticks work) (ticks lead)) ≡ Ok tt
       → Judged d (requested d number work lead) r

@@ -56,11 +56,6 @@ opened_desk fs charge clock = rewritten (laid fs charge clock) (opened clock.0 (
 abbrev pub Fresh : List Feed → Type 0
 Fresh fs = Each (λ f. f.owes.0 ≡ 0) fs
 
--- the answer to a list that lines 12, 8, 3 and 18 let pass
-abbrev pub opened_at : List ℕ → ℕ → ℕ → Answer
-opened_at xs start charge =
-    answered (feed_lines (ticks charge) (feeds_in xs)) (opened_desk (feeds_in xs) (ticks charge) (instant start)) empty
-
 -- the answer, and the state
 unfoldable pub opened_of : List ℕ → ℕ → ℕ → Answer
 opened_of xs start charge =

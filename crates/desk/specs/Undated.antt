@@ -5,7 +5,7 @@ use Rattle.ticks.specs.declared.Instant.{Instant}
 use Rattle.ticks.specs.Ticks.{instant}
 use Rattle.edf.specs.Share.{deadline_at}
 use Rattle.answers.specs.declared.Refusal.{Refusal}
-use Rattle.answers.specs.declared.Verdict.TheVariants.{Yes, No}
+use Rattle.std.specs.Prelude.{Ok, Err}
 use Rattle.answers.specs.Answers.{Line, first_of, on_yes}
 use Rattle.desk.specs.declared.Desk.{Desk}
 use Rattle.desk.specs.declared.Answer.{Answer}
@@ -33,6 +33,6 @@ remembering deadline a = record { desk = on_yes a.verdict (since deadline a.desk
 
 -- the answer of an ask with no date, and the state that it hands back
 pub record AskedUndated (d : Desk) (number work : ℕ) (r : Answer) : Type 0 where
-  pub stopped : (x : Refusal) → first_of (undated_lines d number) ≡ No x → r ≡ record { desk = d; verdict = No x }
-  pub asked : first_of (undated_lines d number) ≡ Yes
+  pub stopped : (x : Refusal) → first_of (undated_lines d number) ≡ Err x → r ≡ record { desk = d; verdict = Err x }
+  pub asked : first_of (undated_lines d number) ≡ Ok tt
       → (a : Answer) × Asked d number work (undated_lead d work) a × (r ≡ remembering (instant (undated_deadline d work)) a)

@@ -3,21 +3,22 @@
 #![tactic(auto)]
 
 ghost use Rattle.std.specs.Prelude.{◌≡◌, true, ◌≤◌, ◌<◌, ◌^◌, length};
-ghost use Rattle.ticks.specs.Ticks.{last_instant, ticks};
+ghost use Rattle.ticks.specs.Ticks.{last_instant, ticks, instant};
+ghost use Rattle.feeds.specs.Lines.{feed_lines, feeds_in};
 ghost use Rattle.jobs.specs.Jobs.{most_jobs};
 ghost use Rattle.listing.specs.Labels.{label_of, PartAt};
-ghost use Rattle.answers.specs.declared.Verdict.TheVariants.{Yes};
-ghost use Rattle.answers.specs.Answers.{first_of};
+ghost use Rattle.std.specs.Prelude.{Ok};
+ghost use Rattle.answers.specs.Answers.{first_of, yes_with};
 ghost use Rattle.shares.specs.Shares.{is_share};
 ghost use Rattle.desk.specs.State.{empty, with, sharing, since, in_order};
-ghost use Rattle.desk.specs.Opening.{front_lines, opened_of, opened_at, opened_shared_of};
-ghost use Rattle.desk.specs.Calls.{step_of, end_lines, end_of, rest_lines, rest_of, list_lines, counted_of, listed_of, runner_of};
-ghost use Rattle.desk.specs.Undated.{undated_lines, undated_lead, remembering, AskedUndated};
+ghost use Rattle.desk.specs.Answers.{handed};
+ghost use Rattle.desk.specs.Opening.{front_lines, opened_desk, opened_of, opened_shared_of};
+ghost use Rattle.desk.specs.Calls.{stepped_desk, step_of, end_lines, end_of, rest_lines, rest_of, list_lines, counted_of, listed_of, runner_of};
+ghost use Rattle.desk.specs.Undated.{undated_lines, undated_lead, AskedUndated};
 ghost use Rattle.desk.specs.Asking.{request_lines, place_lines, request_of, Admissible, Judged, Asked};
 
 use answers::{Refusal, Verdict, Who};
-use feeds::Feeds;
-use jobs::{Found, Job, Table};
+use jobs::{Job, Table};
 use ledger::Ledger;
 use listing::Part;
 use shares::Share;
@@ -50,18 +51,38 @@ pub struct Stepped {
     pub owes: Length,
 }
 
-// A request as the lines leave it: the answer, and the job that is asked for, none where it is refused.
-#[derive(Clone, Copy)]
-pub struct Request {
-    pub verdict: Verdict,
-    pub job: Job,
+impl Stepped {
+    // A step that is refused hands back the state it was given, and names nobody.
+    fn of(given: Desk, after: Result<serving::Stepped, Refusal>) -> Stepped
+        ensures { result ≡ stepped_desk given after }
+    {
+        match after {
+            Ok(stepped) => Stepped {
+                desk: given.with(stepped.ledger),
+                verdict: Ok(()),
+                who: stepped.who,
+                owes: stepped.owes,
+            },
+            Err(refusal) => Stepped {
+                desk: given,
+                verdict: Err(refusal),
+                who: Who::Idle,
+                owes: Length::NONE,
+            },
+        }
+    }
 }
 
-// The answer of the list call, and how many jobs it wrote.
-#[derive(Clone, Copy)]
-pub struct Counted {
-    pub verdict: Verdict,
-    pub count: usize,
+impl Answer {
+    // A call that is refused hands back the state it was given.
+    pub fn of(given: Desk, after: Result<Desk, Refusal>) -> Answer
+        ensures { result ≡ handed given after }
+    {
+        Answer {
+            desk: after.unwrap_or(given),
+            verdict: after.map(|_| ()),
+        }
+    }
 }
 
 impl Desk {
@@ -80,224 +101,145 @@ impl Desk {
     pub fn in_order(self) -> bool
         ensures { result ≡ in_order self }
     {
-        if !self.share.in_order() {
-            return false;
-        }
-        if !self.previous.within() {
-            return false;
-        }
-        self.ledger.in_order()
+        self.share.in_order() && self.previous.within() && self.ledger.in_order()
     }
 
     // The desk with another state of the box.
     pub fn with(self, ledger: Ledger) -> Desk
         ensures { result ≡ with self ledger }
     {
-        let share = self.share;
-        let previous = self.previous;
-        Desk {
-            ledger,
-            share,
-            previous,
-        }
+        Desk { ledger, ..self }
     }
 
     // The desk with a share for exports with no date.
     fn sharing(self, share: Share) -> Desk
         ensures { result ≡ sharing share self }
     {
-        let ledger = self.ledger;
-        let previous = self.previous;
-        Desk {
-            ledger,
-            share,
-            previous,
-        }
+        Desk { share, ..self }
     }
 
     // The desk once an export with no date was taken that is due then.
     fn since(self, previous: Instant) -> Desk
         ensures { result ≡ since previous self }
     {
-        let ledger = self.ledger;
-        let share = self.share;
-        Desk {
-            ledger,
-            share,
-            previous,
-        }
+        Desk { previous, ..self }
     }
 
     // Lines 12 and 8, then 3, then 18: those of both openings that come before all others.
     fn front_stops(list: &[u32], start: u64, charge: u32) -> Verdict
         ensures { result ≡ first_of (front_lines list.now start charge) }
     {
-        let shape = feeds::shape(list);
-        if !shape.is_yes() {
-            return shape;
-        }
-        if !Instant::at(start).within() {
-            return Verdict::No(Refusal::PastLast);
-        }
-        if !Length::of(charge).suits_charge() {
-            return Verdict::No(Refusal::ChargeTooHigh);
-        }
-        Verdict::Yes
+        feeds::shape(list)?;
+        Refusal::PastLast.when(!Instant::at(start).within())?;
+        Refusal::ChargeTooHigh.when(!Length::of(charge).suits_charge())
     }
 
     // Opening with a list of feeds at an instant, under a charge: lines 12, 8, 3 and 18, then 2, 9 and 10.
     pub fn open(list: &[u32], start: u64, charge: u32) -> Answer
         ensures { result ≡ opened_of list.now start charge }
     {
-        let verdict = Desk::front_stops(list, start, charge);
-        if !verdict.is_yes() {
-            return Answer {
-                desk: Desk::none(),
-                verdict,
-            };
-        }
-        Desk::open_at(list, start, charge)
+        Answer::of(Desk::none(), Desk::opened(list, start, charge))
+    }
+
+    fn opened(list: &[u32], start: u64, charge: u32) -> Result<Desk, Refusal>
+        ensures { handed empty result ≡ opened_of list.now start charge }
+    {
+        Desk::front_stops(list, start, charge)?;
+        Desk::laid_out(list, start, charge)
     }
 
     // The opening that carries a share p/q for exports with no date: line 19 comes after 18.
     pub fn open_shared(list: &[u32], start: u64, charge: u32, p: u32, q: u32) -> Answer
         ensures { result ≡ opened_shared_of list.now start charge p q }
     {
-        let verdict = Desk::front_stops(list, start, charge);
-        if !verdict.is_yes() {
-            return Answer {
-                desk: Desk::none(),
-                verdict,
-            };
-        }
         let share = Share::of(p, q);
-        if !share.is_share() {
-            return Answer {
-                desk: Desk::none(),
-                verdict: Verdict::No(Refusal::NoShare),
-            };
-        }
-        let opened = Desk::open_at(list, start, charge);
-        let verdict = opened.verdict;
-        if !verdict.is_yes() {
-            return opened;
-        }
-        let desk = opened.desk;
-        Answer {
-            desk: desk.sharing(share),
-            verdict,
-        }
+        Answer::of(
+            Desk::none(),
+            Desk::opened_shared(list, start, charge, share),
+        )
     }
 
-    // The opening of a list that lines 12, 8, 3 and 18 let pass: lines 2, 9 and 10, then the pieces of the opening instant.
-    fn open_at(list: &[u32], start: u64, charge: u32) -> Answer
-        requires { first_of (front_lines list.now start charge) ≡ Yes }
-        ensures { result ≡ opened_at list.now start charge }
+    fn opened_shared(list: &[u32], start: u64, charge: u32, share: Share) -> Result<Desk, Refusal>
+        ensures { handed empty result ≡ opened_shared_of list.now start charge share.p share.q }
+    {
+        Desk::front_stops(list, start, charge)?;
+        Refusal::NoShare.when(!share.is_share())?;
+        Ok(Desk::laid_out(list, start, charge)?.sharing(share))
+    }
+
+    // The desk of a list that lines 12, 8, 3 and 18 let pass: lines 2, 9 and 10, then the pieces of the opening instant.
+    fn laid_out(list: &[u32], start: u64, charge: u32) -> Result<Desk, Refusal>
+        requires { first_of (front_lines list.now start charge) ≡ Ok tt }
+        ensures { result ≡ yes_with (first_of (feed_lines (ticks charge) (feeds_in list.now))) (opened_desk (feeds_in list.now) (ticks charge) (instant start)) }
     {
         let feeds = feeds::taken(list);
         let charge = Length::of(charge);
-        let verdict = feeds.sound(charge);
-        if !verdict.is_yes() {
-            return Answer {
-                desk: Desk::none(),
-                verdict,
-            };
-        }
+        feeds.sound(charge)?;
         let clock = Instant::at(start);
         let ledger = Ledger::laid(clock, charge, feeds.arrive(charge, clock));
-        Answer {
-            desk: Desk::none().with(ledger),
-            verdict,
-        }
+        Ok(Desk::none().with(ledger))
     }
 
     // One step of one tick.
     pub fn step(self) -> Stepped
         ensures { result ≡ step_of self }
     {
-        if !self.in_order() {
-            return Stepped {
-                desk: self,
-                verdict: Verdict::No(Refusal::NotInOrder),
-                who: Who::Idle,
-                owes: Length::NONE,
-            };
-        }
-        let stepped = serving::step(self.ledger);
-        let ledger = stepped.ledger;
-        let verdict = stepped.verdict;
-        let who = stepped.who;
-        let owes = stepped.owes;
-        Stepped {
-            desk: self.with(ledger),
-            verdict,
-            who,
-            owes,
-        }
+        Stepped::of(self, self.stepped())
+    }
+
+    fn stepped(self) -> Result<serving::Stepped, Refusal>
+        ensures { stepped_desk self result ≡ step_of self }
+    {
+        Refusal::NotInOrder.when(!self.in_order())?;
+        serving::step(self.ledger)
     }
 
     // Lines 13 and 7 of an end.
     fn end_stops(self, number: u32) -> Verdict
         ensures { result ≡ first_of (end_lines self number) }
     {
-        if !self.in_order() {
-            return Verdict::No(Refusal::NotInOrder);
-        }
-        if !self.ledger.table.has(number) {
-            return Verdict::No(Refusal::NothingThere);
-        }
-        Verdict::Yes
+        Refusal::NotInOrder.when(!self.in_order())?;
+        Refusal::NothingThere.when(!self.ledger.table.has(number))
     }
 
     // Ending a job before its time.
     pub fn end(self, number: u32) -> Answer
         ensures { result ≡ end_of self number }
     {
-        let verdict = self.end_stops(number);
-        if !verdict.is_yes() {
-            return Answer {
-                desk: self,
-                verdict,
-            };
-        }
+        Answer::of(self, self.ended(number))
+    }
+
+    fn ended(self, number: u32) -> Result<Desk, Refusal>
+        ensures { handed self result ≡ end_of self number }
+    {
+        self.end_stops(number)?;
         let ledger = self.ledger;
-        let next = ledger.moved(ledger.clock, ledger.feeds, ledger.table.end(number));
-        Answer {
-            desk: self.with(next),
-            verdict,
-        }
+        let table = ledger.table.end(number);
+        Ok(self.with(ledger.moved(ledger.clock, ledger.feeds, table)))
     }
 
     // Lines 13 and 7 of a rest.
     fn rest_stops(self, position: u32) -> Verdict
         ensures { result ≡ first_of (rest_lines self position) }
     {
-        if !self.in_order() {
-            return Verdict::No(Refusal::NotInOrder);
-        }
-        if self.ledger.feeds.owes_at(position).is_none() {
-            return Verdict::No(Refusal::NothingThere);
-        }
-        Verdict::Yes
+        Refusal::NotInOrder.when(!self.in_order())?;
+        Refusal::NothingThere.when(self.ledger.feeds.owes_at(position) == Length::NONE)
     }
 
     // Resting a feed's current piece.
     pub fn rest(self, position: u32) -> Answer
         ensures { result ≡ rest_of self position }
     {
-        let verdict = self.rest_stops(position);
-        if !verdict.is_yes() {
-            return Answer {
-                desk: self,
-                verdict,
-            };
-        }
+        Answer::of(self, self.rested(position))
+    }
+
+    fn rested(self, position: u32) -> Result<Desk, Refusal>
+        ensures { handed self result ≡ rest_of self position }
+    {
+        self.rest_stops(position)?;
         let ledger = self.ledger;
-        let next = ledger.moved(ledger.clock, ledger.feeds.rest(position), ledger.table);
-        Answer {
-            desk: self.with(next),
-            verdict,
-        }
+        let feeds = ledger.feeds.rest(position);
+        Ok(self.with(ledger.moved(ledger.clock, feeds, ledger.table)))
     }
 
     // Lines 1, 2 and 3: those of the request itself.
@@ -305,19 +247,9 @@ impl Desk {
         requires { (clock.0 ≤ last_instant) × (lead.0 < 2 ^ 48) }
         ensures { result ≡ first_of (request_lines clock number work lead) }
     {
-        if number < Job::LOWEST {
-            return Verdict::No(Refusal::NumberZero);
-        }
-        if !work.suits_job() {
-            return Verdict::No(Refusal::Outside);
-        }
-        if !lead.suits_job() {
-            return Verdict::No(Refusal::Outside);
-        }
-        if !clock.plus(lead).within() {
-            return Verdict::No(Refusal::PastLast);
-        }
-        Verdict::Yes
+        Refusal::NumberZero.when(number < Job::LOWEST)?;
+        Refusal::Outside.when(!(work.suits_job() && lead.suits_job()))?;
+        Refusal::PastLast.when(!clock.plus(lead).within())
     }
 
     // Lines 4 and 5: those of the place where the job would stand.
@@ -325,106 +257,60 @@ impl Desk {
         requires { table.count ≤ most_jobs }
         ensures { result ≡ first_of (place_lines table number) }
     {
-        if table.has(number) {
-            return Verdict::No(Refusal::NumberLive);
-        }
-        if Job::MOST <= table.count {
-            return Verdict::No(Refusal::Full);
-        }
-        Verdict::Yes
+        Refusal::NumberLive.when(table.has(number))?;
+        Refusal::Full.when(Job::MOST <= table.count)
     }
 
     // Lines 1 to 5 of a desk in order, and what is asked for where none of them stops it.
-    fn asked(self, number: u32, work: Length, lead: Length) -> Request
+    fn asked(self, number: u32, work: Length, lead: Length) -> Result<Job, Refusal>
         requires { (in_order self ≡ true) × (work.0 < 2 ^ 32) × (lead.0 < 2 ^ 48) }
         ensures { result ≡ request_of self number work.0 lead.0 }
     {
-        let own = Desk::request_stops(self.ledger.clock, number, work, lead);
-        if !own.is_yes() {
-            return Request {
-                verdict: own,
-                job: Job::NONE,
-            };
-        }
-        let verdict = Desk::place_stops(self.ledger.table, number);
-        if !verdict.is_yes() {
-            return Request {
-                verdict,
-                job: Job::NONE,
-            };
-        }
-        Request {
-            verdict,
-            job: Job::of(
-                number,
-                work.and(self.ledger.charge),
-                self.ledger.clock.plus(lead),
-            ),
-        }
+        Desk::request_stops(self.ledger.clock, number, work, lead)?;
+        Desk::place_stops(self.ledger.table, number)?;
+        let owed = work.and(self.ledger.charge);
+        Ok(Job::of(number, owed, self.ledger.clock.plus(lead)))
     }
 
     // What is asked for, unless one of lines 13 and 1 to 5 stops it.
-    pub fn request(self, number: u32, work: u32, lead: u32) -> Request
+    pub fn request(self, number: u32, work: u32, lead: u32) -> Result<Job, Refusal>
         ensures { result ≡ request_of self number work lead }
     {
-        if !self.in_order() {
-            return Request {
-                verdict: Verdict::No(Refusal::NotInOrder),
-                job: Job::NONE,
-            };
-        }
+        Refusal::NotInOrder.when(!self.in_order())?;
         self.asked(number, Length::of(work), Length::of(lead))
     }
 
     // Line 6: the request is taken exactly if it fits.
-    fn admit(self, job: Job) -> Answer
+    fn admit(self, job: Job) -> Result<Desk, Refusal>
         requires { Admissible self job }
-        ensures { Judged self job result }
+        ensures { Judged self job (handed self result) }
     {
         let ledger = self.ledger;
         let next = ledger.moved(ledger.clock, ledger.feeds, ledger.table.taken(job));
-        if room::fits(next) {
-            return Answer {
-                desk: self.with(next),
-                verdict: Verdict::Yes,
-            };
-        }
-        Answer {
-            desk: self,
-            verdict: Verdict::No(Refusal::DoesNotFit),
-        }
+        Refusal::DoesNotFit.when(!room::fits(next))?;
+        Ok(self.with(next))
     }
 
     // Asking for a job.
     pub fn ask(self, number: u32, work: u32, lead: u32) -> Answer
         ensures { Asked self number work lead result }
     {
-        let request = self.request(number, work, lead);
-        let verdict = request.verdict;
-        let job = request.job;
-        if !verdict.is_yes() {
-            return Answer {
-                desk: self,
-                verdict,
-            };
-        }
-        self.admit(job)
+        Answer::of(self, self.taken(number, work, lead))
+    }
+
+    fn taken(self, number: u32, work: u32, lead: u32) -> Result<Desk, Refusal>
+        ensures { Asked self number work lead (handed self result) }
+    {
+        self.admit(self.request(number, work, lead)?)
     }
 
     // Lines 13, 1 and 19 of an ask with no date.
     fn undated_stops(self, number: u32) -> Verdict
         ensures { result ≡ first_of (undated_lines self number) }
     {
-        if !self.in_order() {
-            return Verdict::No(Refusal::NotInOrder);
-        }
-        if number < Job::LOWEST {
-            return Verdict::No(Refusal::NumberZero);
-        }
-        if !self.share.is_share() {
-            return Verdict::No(Refusal::NoShare);
-        }
-        Verdict::Yes
+        Refusal::NotInOrder.when(!self.in_order())?;
+        Refusal::NumberZero.when(number < Job::LOWEST)?;
+        Refusal::NoShare.when(!self.share.is_share())
     }
 
     // How far ahead an export with no date is due: its time at the share, from the previous one's deadline on or from now.
@@ -434,56 +320,39 @@ impl Desk {
     {
         let clock = self.ledger.clock;
         let time = self.share.time_for(work.and(self.ledger.charge));
-        clock.later_of(self.previous).plus(time).ticks_since(clock)
+        clock.max(self.previous).plus(time).ticks_since(clock)
     }
 
     // Asking for a job with no date: its deadline goes by the rule, then it is asked for as any other, and a yes is remembered.
     pub fn ask_undated(self, number: u32, work: u32) -> Answer
         ensures { AskedUndated self number work result }
     {
-        let stops = self.undated_stops(number);
-        if !stops.is_yes() {
-            return Answer {
-                desk: self,
-                verdict: stops,
-            };
-        }
+        Answer::of(self, self.taken_undated(number, work))
+    }
+
+    fn taken_undated(self, number: u32, work: u32) -> Result<Desk, Refusal>
+        ensures { AskedUndated self number work (handed self result) }
+    {
+        self.undated_stops(number)?;
         let work = Length::of(work);
-        let request = self.asked(number, work, self.undated_lead(work));
-        let verdict = request.verdict;
-        let job = request.job;
-        if !verdict.is_yes() {
-            return Answer {
-                desk: self,
-                verdict,
-            };
-        }
-        self.admit(job).remembering(job.deadline)
+        let job = self.asked(number, work, self.undated_lead(work))?;
+        Ok(self.admit(job)?.since(job.deadline))
     }
 
     // Lines 13 and 11 of a list.
     fn list_stops(self, size: usize) -> Verdict
         ensures { result ≡ first_of (list_lines self size) }
     {
-        if !self.in_order() {
-            return Verdict::No(Refusal::NotInOrder);
-        }
-        if size < Job::NUMBERS * self.ledger.table.count {
-            return Verdict::No(Refusal::ShortBuffer);
-        }
-        Verdict::Yes
+        Refusal::NotInOrder.when(!self.in_order())?;
+        Refusal::ShortBuffer.when(size < Job::NUMBERS * self.ledger.table.count)
     }
 
-    // The live jobs into the front of a lent buffer, earliest deadline first.
-    pub fn list(self, buffer: &mut [u64]) -> Counted
+    // The live jobs into the front of a lent buffer, earliest deadline first, and how many they are.
+    pub fn list(self, buffer: &mut [u64]) -> Result<usize, Refusal>
         ensures { (result ≡ counted_of self (length buffer.old)) × (buffer.new ≡ listed_of self buffer.old) }
     {
-        let verdict = self.list_stops(buffer.len());
-        if !verdict.is_yes() {
-            return Counted { verdict, count: 0 };
-        }
-        let count = listing::list(self.ledger.table, buffer);
-        Counted { verdict, count }
+        self.list_stops(buffer.len())?;
+        Ok(listing::list(self.ledger.table, buffer))
     }
 
     // Whom the next step would name; nobody at the clock's last instant and for a state not in order.
@@ -493,12 +362,10 @@ impl Desk {
         if !self.in_order() {
             return Who::Idle;
         }
-        let last = Instant::last();
-        if !last.is_after(self.ledger.clock) {
+        if Instant::LAST <= self.ledger.clock {
             return Who::Idle;
         }
-        let piece = serving::foremost(self.ledger);
-        piece.who
+        serving::foremost(self.ledger).who
     }
 
     // The label of the one that runs, where it stands in the list that holds it.
@@ -513,22 +380,5 @@ impl Desk {
         ensures { result ≡ label_of (runner_of self) job_labels.now feed_labels.now }
     {
         listing::place(self.runner(), job_labels, feed_labels)
-    }
-}
-
-impl Answer {
-    // A yes to an export with no date is remembered by its deadline.
-    fn remembering(self, deadline: Instant) -> Answer
-        ensures { result ≡ remembering deadline self }
-    {
-        let verdict = self.verdict;
-        if !verdict.is_yes() {
-            return self;
-        }
-        let desk = self.desk;
-        Answer {
-            desk: desk.since(deadline),
-            verdict,
-        }
     }
 }

@@ -5,8 +5,8 @@ use mathlib.Core.List.{List, [], ◌∷◌}
 use Prim.Native.Nat.{ℕ}
 use Rattle.mesh.specs.Bands.{work_of}
 use Rattle.mesh.specs.Meshes.{triangles_of, mesh_lines}
-use Rattle.answers.specs.declared.Verdict.{Verdict}
-use Rattle.answers.specs.declared.Verdict.TheVariants.{Yes, No}
+use Rattle.answers.specs.Verdicts.{Verdict}
+use Rattle.std.specs.Prelude.{Ok, Err}
 use Rattle.answers.specs.Answers.{first_of, on_yes}
 use Rattle.edf.specs.Book.{Book}
 use Rattle.shares.specs.declared.Share.{Share}
@@ -46,10 +46,10 @@ module _ (c : ℕ) (b : Book) (x : Did Call Desk) (d : Desk) (g : Good d) (r : R
   ask_arrives number work lead a h e = go a.verdict refl
     where
       go : (v : Verdict) → a.verdict ≡ v → Reordered (on_yes v (taking (job_asked c b number work lead) b) b) (book x.came.state)
-      go Yes y =
+      go (Ok tt) y =
           subst (λ k. Reordered (taking (job_asked c b number work lead) b) (book k)) (sym e)
           (reordered_trans _ _ _ (taken_same c b d g r q number work lead) (ask_book d g number work lead a h y))
-      go (No z) n = kept (e ∙ ask_refused d number work lead a h z n)
+      go (Err z) n = kept (e ∙ ask_refused d number work lead a h z n)
 
   mesh_arrives : (s : List ℕ) (size number lead : ℕ) (a : Answer) → AskedMesh d s size number lead a → x.came.state ≡ a.desk
       → Then (on_yes a.verdict (taking (job_asked c b number (work_of (triangles_of s)) lead) b) b)
@@ -57,8 +57,8 @@ module _ (c : ℕ) (b : Book) (x : Did Call Desk) (d : Desk) (g : Good d) (r : R
     where
       go : (v : Verdict) → first_of (disorder d ∷ mesh_lines s size) ≡ v
           → Reordered (on_yes a.verdict (taking (job_asked c b number (work_of (triangles_of s)) lead) b) b) (book x.came.state)
-      go Yes y = ask_arrives number (work_of (triangles_of s)) lead a (h.asked y) e
-      go (No z) n =
+      go (Ok tt) y = ask_arrives number (work_of (triangles_of s)) lead a (h.asked y) e
+      go (Err z) n =
           let same = h.stopped z n in
           subst (λ v. Reordered (on_yes v (taking (job_asked c b number (work_of (triangles_of s)) lead) b) b) (book x.came.state)) (sym (ap (λ k. k.verdict) same))
           (kept (e ∙ ap (λ k. k.desk) same))
@@ -69,17 +69,17 @@ module _ (c : ℕ) (b : Book) (x : Did Call Desk) (d : Desk) (g : Good d) (r : R
     where
       go : (v : Verdict) → a.verdict ≡ v
           → Reordered (on_yes v (taking (job_asked c b number work (lead_of c s (record { book = b; previous = previous }) work)) b) b) (book x.came.state)
-      go Yes y =
+      go (Ok tt) y =
           subst (λ l. Reordered (taking (job_asked c b number work l) b) (book x.came.state)) (lead_same c b d g r q s u previous w work)
           (subst (λ k. Reordered (taking (job_asked c b number work (undated_lead d work)) b) (book k)) (sym e)
           (reordered_trans _ _ _ (taken_same c b d g r q number work (undated_lead d work)) (undated_book d number work a h g y)))
-      go (No z) n = kept (e ∙ undated_refused d number work a h z n)
+      go (Err z) n = kept (e ∙ undated_refused d number work a h z n)
 
   -- a call whose state is a book written into the desk
   written : (v : Verdict) (new : Book) (then : Book) → x.came.state ≡ on_yes v (rewritten d new) d
-      → (v ≡ Yes → Reordered then (book (on_yes v (rewritten d new) d))) → Then (on_yes v then b)
-  written Yes new then e h = subst (λ k. Reordered then (book k)) (sym e) (h refl)
-  written (No z) new then e h = kept e
+      → (v ≡ Ok tt → Reordered then (book (on_yes v (rewritten d new) d))) → Then (on_yes v then b)
+  written (Ok tt) new then e h = subst (λ k. Reordered then (book k)) (sym e) (h refl)
+  written (Err z) new then e h = kept e
 
   inner : BookInOrder b
   inner = ordered c b d g r q
@@ -118,8 +118,8 @@ module _ (c : ℕ) (b : Book) (x : Did Call Desk) (d : Desk) (g : Good d) (r : R
 
       undated : (number work : ℕ) (r' : Answer) → x.call ≡ ask_undated number work r' → AskedUndated d number work r' → x.came.state ≡ r'.desk → (v : Verdict) → r'.verdict ≡ v
           → x.came.state.previous.0 ≡ on_yes v (ruled c s (record { book = b; previous = previous }) work) previous
-      undated number work r' e h k Yes y = ap (λ t. t.previous.0) k ∙ undated_remembered d number work r' h y ∙ ruled_same c b d g r q s u previous w work
-      undated number work r' e h k (No z) n = ap (λ t. t.previous.0) (k ∙ undated_refused d number work r' h z n) ∙ w
+      undated number work r' e h k (Ok tt) y = ap (λ t. t.previous.0) k ∙ undated_remembered d number work r' h y ∙ ruled_same c b d g r q s u previous w work
+      undated number work r' e h k (Err z) n = ap (λ t. t.previous.0) (k ∙ undated_refused d number work r' h z n) ∙ w
 
       go : (k : Call) → x.call ≡ k → allows k d x.came → x.came.state.previous.0 ≡ previous_after c s k (record { book = b; previous = previous })
       go (ask number work lead r') e h = others (ask number work lead r') e (λ n. n) h

@@ -14,8 +14,8 @@ use Rattle.mesh.specs.Meshes.{triangles_of, mesh_lines}
 use Rattle.jobs.specs.declared.Job.{Job}
 use Rattle.answers.specs.declared.Who.TheVariants.{Idle}
 use Rattle.answers.specs.declared.Refusal.TheVariants.{DoesNotFit}
-use Rattle.answers.specs.declared.Verdict.{Verdict}
-use Rattle.answers.specs.declared.Verdict.TheVariants.{Yes, No}
+use Rattle.answers.specs.Verdicts.{Verdict}
+use Rattle.std.specs.Prelude.{Ok, Err}
 use Rattle.answers.specs.Answers.{first_of, on_yes}
 use Rattle.answers.proofs.Answers.{yes_first, yes_is_not_no}
 use Rattle.edf.specs.Book.{Feed, Book}
@@ -56,7 +56,7 @@ with_job_read d j = book_of_rewritten d.ledger (with_job d j) (record { position
 by_fits : (d : Desk) (j : Job) (r : Answer) → Judged d j r → TakenIfItFits d j (desk_with d j) r
 unfolding Judged
 by_fits d j r (inl y) =
-    let said : r.verdict ≡ Yes = ap (λ a. a.verdict) y.1 in
+    let said : r.verdict ≡ (Ok tt) = ap (λ a. a.verdict) y.1 in
     let kept : r.desk ≡ rewritten d (with_job d j) = ap (λ a. a.desk) y.1 in
     record {
       yes = (λ e. y.0, λ f. said);
@@ -65,8 +65,8 @@ by_fits d j r (inl y) =
       desk = λ e. kept;
     }
 by_fits d j r (inr n) =
-    let said : r.verdict ≡ No DoesNotFit = ap (λ a. a.verdict) n.1 in
-    let never : r.verdict ≡ Yes → ⊥ = λ e. yes_is_not_no DoesNotFit (sym e ∙ said) in
+    let said : r.verdict ≡ Err DoesNotFit = ap (λ a. a.verdict) n.1 in
+    let never : r.verdict ≡ Ok tt → ⊥ = λ e. yes_is_not_no DoesNotFit (sym e ∙ said) in
     record {
       yes = (λ e. absurd (never e), λ f. absurd (n.0 f));
       no = (λ e. n.0, λ f. said);
@@ -90,7 +90,7 @@ an_undated_is_taken_exactly_if_it_fits d number work r a u e =
     let t = instant (undated_deadline d work) in
     let taken = by_fits d j b (k.judged e) in
     let alike : r.verdict ≡ b.verdict = ap (λ q. q.verdict) same in
-    let kept : b.verdict ≡ Yes → r.desk ≡ since t (desk_with d j) = λ y. ap (λ q. q.desk) same ∙ ap (λ v. on_yes v (since t b.desk) b.desk) y ∙ ap (since t) (taken.desk y) in
+    let kept : b.verdict ≡ Ok tt → r.desk ≡ since t (desk_with d j) = λ y. ap (λ q. q.desk) same ∙ ap (λ v. on_yes v (since t b.desk) b.desk) y ∙ ap (since t) (taken.desk y) in
     record {
       yes = (λ y. taken.yes.0 (sym alike ∙ y), λ f. alike ∙ taken.yes.1 f);
       no = (λ n. taken.no.0 (sym alike ∙ n), λ f. alike ∙ taken.no.1 f);
@@ -111,8 +111,8 @@ mesh_once : (d : Desk) (s : List ℕ) (size number lead : ℕ) (q r : Answer) �
 mesh_once d s size number lead q r a b = go (first_of (disorder d ∷ mesh_lines s size)) refl
   where
     go : (v : Verdict) → first_of (disorder d ∷ mesh_lines s size) ≡ v → q ≡ r
-    go Yes e = asked_once d number (work_of (triangles_of s)) lead q r (a.asked e) (b.asked e)
-    go (No x) e = a.stopped x e ∙ sym (b.stopped x e)
+    go (Ok tt) e = asked_once d number (work_of (triangles_of s)) lead q r (a.asked e) (b.asked e)
+    go (Err x) e = a.stopped x e ∙ sym (b.stopped x e)
 
 pub one_answer : OneAnswer
 one_answer = record { ask = asked_once; mesh = mesh_once; undated = asked_undated_once }
@@ -128,7 +128,7 @@ turns x fs =
     (each _ (λ f. record { position = refl; plan = refl; released = turned_released x f; over = turned_over x f; going = turned_kept x f }) fs)
 
 -- a desk that lines 13 and 3 let pass
-module _ (d : Desk) (s : Sized d.ledger) (e : first_of (step_lines d) ≡ Yes) where
+module _ (d : Desk) (s : Sized d.ledger) (e : first_of (step_lines d) ≡ Ok tt) where
   pub steps_in_order : InOrder d.ledger
   steps_in_order = in_order_lem d s (not-false _ (yes_first (disorder d) _ e).0)
 

@@ -30,8 +30,8 @@ use Rattle.edf.specs.Calls.{taking, resting}
 use Rattle.edf.specs.Load.{opened}
 use Rattle.edf.proofs.Sound.{owed_by_past}
 use Rattle.answers.specs.declared.Refusal.TheVariants.{DoesNotFit}
-use Rattle.answers.specs.declared.Verdict.{Verdict}
-use Rattle.answers.specs.declared.Verdict.TheVariants.{Yes, No}
+use Rattle.answers.specs.Verdicts.{Verdict}
+use Rattle.std.specs.Prelude.{Ok, Err}
 use Rattle.answers.specs.Answers.{Line, line, first_of, passes, on_yes, answer_of}
 use Rattle.answers.proofs.Answers.{goes_on_lem, stops_before, goes_past}
 use Rattle.ledger.specs.declared.Ledger.{Ledger}
@@ -138,16 +138,16 @@ module _ (d : Desk) (number work lead : ℕ) where
       in_order v e = goes_on_lem (disorder d) lines v (ap not g.order) e
 
       go : (v : Verdict) → first_of lines ≡ v → r ≡ answering (first_of (lines ++ sixth fitting))
-      go Yes e =
-          let h = in_order Yes e in
+      go (Ok tt) e =
+          let h = in_order (Ok tt) e in
           judged_is fitting r (fitting_says (admissible d number work lead g.sized h)) (a.judged h)
           ∙ sym (ap answering (goes_past lines (sixth fitting) e))
-      go (No x) e = a.stopped x (in_order (No x) e) ∙ sym (ap answering (stops_before lines (sixth fitting) x e))
+      go (Err x) e = a.stopped x (in_order (Err x) e) ∙ sym (ap answering (stops_before lines (sixth fitting) x e))
 
 -- an ask with no date, as it can be computed: line 1 or 19, then the ask with the lead of the rule
 abbrev stopped_or : Verdict → Desk → Answer → Answer
-stopped_or Yes d a = a
-stopped_or (No x) d a = record { desk = d; verdict = No x }
+stopped_or (Ok tt) d a = a
+stopped_or (Err x) d a = record { desk = d; verdict = Err x }
 
 module _ (d : Desk) (number work : ℕ) where
   abbrev own : List Line
@@ -164,11 +164,11 @@ module _ (d : Desk) (number work : ℕ) where
       past v e = goes_on_lem (disorder d) own v (ap not g.order) e
 
       go : (v : Verdict) → first_of own ≡ v → r ≡ stopped_or (first_of own) d (remembering (instant (undated_deadline d work)) (asking d number work (undated_lead d work)))
-      go Yes e =
-          let (b, k, same) = a.asked (past Yes e) in
+      go (Ok tt) e =
+          let (b, k, same) = a.asked (past (Ok tt) e) in
           same ∙ ap (remembering (instant (undated_deadline d work))) (asked_is d number work (undated_lead d work) b g k)
           ∙ sym (ap (λ v. stopped_or v d (remembering (instant (undated_deadline d work)) (asking d number work (undated_lead d work)))) e)
-      go (No x) e = a.stopped x (past (No x) e) ∙ sym (ap (λ v. stopped_or v d (remembering (instant (undated_deadline d work)) (asking d number work (undated_lead d work)))) e)
+      go (Err x) e = a.stopped x (past (Err x) e) ∙ sym (ap (λ v. stopped_or v d (remembering (instant (undated_deadline d work)) (asking d number work (undated_lead d work)))) e)
 
 -- the answer is this number, and what comes next passes on the state that is handed back
 unfoldable then : ℕ → (Desk → Bool) → Answer → Bool

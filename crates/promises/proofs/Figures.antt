@@ -4,7 +4,7 @@ use mathlib.Core.Logic.{inl, inr}
 use mathlib.Core.Bool.{Bool, true, false, not}
 use mathlib.Core.List.{List, ◌∷◌, ◌++◌, map}
 use Prim.Native.Nat.{ℕ, ◌*◌}
-use lib.ListN.{drop}
+use lib.ListN.{length, drop}
 use borrow.Author.Tests.{not-false}
 use Rattle.ticks.specs.Ticks.{ticks}
 use Rattle.mesh.specs.Bands.{work_of}
@@ -18,10 +18,10 @@ use Rattle.jobs.proofs.Figures.{figured_stores, figured_own}
 use Rattle.jobs.proofs.Places.{live_of}
 use Rattle.listing.specs.Words.{words}
 use Rattle.answers.specs.declared.Refusal.TheVariants.{DoesNotFit}
-use Rattle.answers.specs.declared.Verdict.{Verdict}
-use Rattle.answers.specs.declared.Verdict.TheVariants.{Yes, No}
+use Rattle.answers.specs.Verdicts.{Verdict}
+use Rattle.std.specs.Prelude.{Ok, Err}
 use Rattle.answers.specs.Answers.{first_of, on_yes}
-use Rattle.answers.proofs.Answers.{stops, yes_first, yes_is_not_no}
+use Rattle.answers.proofs.Answers.{stops, yes_first, yes_is_not_no, told_verdict}
 use Rattle.edf.specs.Book.{Book}
 use Rattle.edf.specs.Step as edf
 use Rattle.edf.specs.Calls.{ending, resting}
@@ -31,7 +31,7 @@ use Rattle.ledger.specs.Books.{job_of}
 use Rattle.desk.specs.declared.Desk.{Desk}
 use Rattle.desk.specs.declared.Answer.{Answer}
 use Rattle.desk.specs.State.{book, rewritten, in_order}
-use Rattle.desk.specs.Calls.{disorder, step_lines, step_of, end_lines, end_of, rest_lines, rest_of, counted_of, listed_of}
+use Rattle.desk.specs.Calls.{disorder, step_lines, step_of, end_lines, end_of, rest_lines, rest_of, list_lines, counted_of, listed_of}
 use Rattle.desk.specs.Asking.{ask_lines, requested, with_job, Judged, Asked}
 use Rattle.desk.specs.Undated.{AskedUndated, undated_lead}
 use Rattle.desk.proofs.InOrder.{in_order_lem}
@@ -57,30 +57,30 @@ written_true : (d : Desk) (b : Book) → TrueFigures (rewritten d b)
 written_true d b = subst Figured (sym (live_of (figured (sorted (map job_of b.jobs))))) (figured_stores (sorted (map job_of b.jobs)))
 
 -- where nothing is refused
-either_true : (v : Verdict) (d : Desk) (b : Book) → v ≡ Yes → TrueFigures (on_yes v (rewritten d b) d)
-either_true Yes d b e = written_true d b
-either_true (No x) d b e = absurd (yes_is_not_no x (sym e))
+either_true : (v : Verdict) (d : Desk) (b : Book) → v ≡ Ok tt → TrueFigures (on_yes v (rewritten d b) d)
+either_true (Ok tt) d b e = written_true d b
+either_true (Err x) d b e = absurd (yes_is_not_no x (sym e))
 
-judged_true : (d : Desk) (j : Job) (r : Answer) → Judged d j r → r.verdict ≡ Yes → TrueFigures r.desk
+judged_true : (d : Desk) (j : Job) (r : Answer) → Judged d j r → r.verdict ≡ Ok tt → TrueFigures r.desk
 unfolding Judged
 judged_true d j r (inl k) y = subst (λ a. TrueFigures a.desk) (sym k.1) (written_true d (with_job d j))
 judged_true d j r (inr k) y = absurd (yes_is_not_no DoesNotFit (sym y ∙ ap (λ a. a.verdict) k.1))
 
-ask_true : (d : Desk) (number work lead : ℕ) (r : Answer) → Asked d number work lead r → r.verdict ≡ Yes → TrueFigures r.desk
+ask_true : (d : Desk) (number work lead : ℕ) (r : Answer) → Asked d number work lead r → r.verdict ≡ Ok tt → TrueFigures r.desk
 ask_true d number work lead r a y = go (first_of (ask_lines d number (ticks work) (ticks lead))) refl
   where
     go : (v : Verdict) → first_of (ask_lines d number (ticks work) (ticks lead)) ≡ v → TrueFigures r.desk
-    go Yes e = judged_true d (requested d number work lead) r (a.judged e) y
-    go (No x) e = absurd (yes_is_not_no x (sym y ∙ ap (λ q. q.verdict) (a.stopped x e)))
+    go (Ok tt) e = judged_true d (requested d number work lead) r (a.judged e) y
+    go (Err x) e = absurd (yes_is_not_no x (sym y ∙ ap (λ q. q.verdict) (a.stopped x e)))
 
-mesh_true : (d : Desk) (s : List ℕ) (size number lead : ℕ) (r : Answer) → AskedMesh d s size number lead r → r.verdict ≡ Yes → TrueFigures r.desk
+mesh_true : (d : Desk) (s : List ℕ) (size number lead : ℕ) (r : Answer) → AskedMesh d s size number lead r → r.verdict ≡ Ok tt → TrueFigures r.desk
 mesh_true d s size number lead r a y = go (first_of (disorder d ∷ mesh_lines s size)) refl
   where
     go : (v : Verdict) → first_of (disorder d ∷ mesh_lines s size) ≡ v → TrueFigures r.desk
-    go Yes e = ask_true d number (work_of (triangles_of s)) lead r (a.asked e) y
-    go (No x) e = absurd (yes_is_not_no x (sym y ∙ ap (λ q. q.verdict) (a.stopped x e)))
+    go (Ok tt) e = ask_true d number (work_of (triangles_of s)) lead r (a.asked e) y
+    go (Err x) e = absurd (yes_is_not_no x (sym y ∙ ap (λ q. q.verdict) (a.stopped x e)))
 
-undated_true : (d : Desk) (number work : ℕ) (r : Answer) → AskedUndated d number work r → r.verdict ≡ Yes → TrueFigures r.desk
+undated_true : (d : Desk) (number work : ℕ) (r : Answer) → AskedUndated d number work r → r.verdict ≡ Ok tt → TrueFigures r.desk
 undated_true d number work r a y =
     let (b, k, said, same, s) = undated_yes d number work r a y in
     subst TrueFigures (sym same) (ask_true d number work (undated_lead d work) b k said)
@@ -109,7 +109,8 @@ pub the_list_shows_the_sums : TheListShowsTheSums
 unfolding TheListShowsTheSums counted_of listed_of
 the_list_shows_the_sums d buffer s e =
     let js = live d.ledger.table in
-    let fine = not-false (in_order d) (yes_first (disorder d) _ e).0 in
+    let says = sym (told_verdict (first_of (list_lines d (length buffer))) (length js)) ∙ e in
+    let fine = not-false (in_order d) (yes_first (disorder d) _ says).0 in
     let o = (in_order_lem d s fine).jobs in
-    ap (λ v. on_yes v (words js ++ drop (numbers_a_job * d.ledger.table.count) buffer) buffer) e
+    ap (λ v. on_yes v (words js ++ drop (numbers_a_job * d.ledger.table.count) buffer) buffer) says
     ∙ ap (λ l. words l ++ drop (numbers_a_job * d.ledger.table.count) buffer) (sym (ap figured (sorted_own js o.order) ∙ figured_own js o.figures))

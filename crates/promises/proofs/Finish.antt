@@ -12,8 +12,8 @@ use Rattle.ticks.specs.Ticks.{last_instant, ticks}
 use Rattle.jobs.specs.Jobs.{live}
 use Rattle.answers.specs.declared.Who.{Who}
 use Rattle.answers.specs.declared.Who.TheVariants.{Idle}
-use Rattle.answers.specs.declared.Verdict.{Verdict}
-use Rattle.answers.specs.declared.Verdict.TheVariants.{Yes, No}
+use Rattle.answers.specs.Verdicts.{Verdict}
+use Rattle.std.specs.Prelude.{Ok, Err}
 use Rattle.answers.specs.Answers.{first_of, on_yes}
 use Rattle.answers.proofs.Answers.{goes_on_lem, no_line, yes_first, yes_is_not_no}
 use Rattle.serving.specs.Tick.{last_line}
@@ -44,10 +44,10 @@ abbrev now : Desk → ℕ
 now d = d.ledger.clock.0
 
 -- on a good desk a step is taken exactly if the clock can go on
-step_taken : (d : Desk) → Good d → now d < last_instant → first_of (step_lines d) ≡ Yes
-step_taken d g h = goes_on_lem (disorder d) _ Yes (ap not g.order) (goes_on_lem (last_line d.ledger) [] Yes (ap not (lt-ltb _ _ h)) no_line)
+step_taken : (d : Desk) → Good d → now d < last_instant → first_of (step_lines d) ≡ Ok tt
+step_taken d g h = goes_on_lem (disorder d) _ (Ok tt) (ap not g.order) (goes_on_lem (last_line d.ledger) [] (Ok tt) (ap not (lt-ltb _ _ h)) no_line)
 
-taken_before_last : (d : Desk) → first_of (step_lines d) ≡ Yes → now d < last_instant
+taken_before_last : (d : Desk) → first_of (step_lines d) ≡ Ok tt → now d < last_instant
 taken_before_last d e = ltb-true _ _ (not-false _ (yes_first (last_line d.ledger) [] (yes_first (disorder d) _ e).1).0)
 
 stepped_is_good : (k : ℕ) (d : Desk) → Good d → Good (stepped k d)
@@ -67,14 +67,14 @@ stepped_book (suc k) d g h =
     stepped_book k (step_of d).desk (step_is_good d g) (omega (arith, step_moves d g h')) ∙ ap (steps k) (step_book d g (step_taken d g h'))
 
 -- a step that is taken after k steps shows that the clock could go on all the way
-goes_so_far : (k : ℕ) (d : Desk) → Good d → first_of (step_lines (stepped k d)) ≡ Yes → now d + k < last_instant
+goes_so_far : (k : ℕ) (d : Desk) → Good d → first_of (step_lines (stepped k d)) ≡ Ok tt → now d + k < last_instant
 unfolding stepped step_of
 goes_so_far zero d g e = omega (arith, taken_before_last d e)
 goes_so_far (suc k) d g e = go (first_of (step_lines d)) refl (goes_so_far k (step_of d).desk (step_is_good d g) e)
   where
     go : (v : Verdict) → first_of (step_lines d) ≡ v → now (step_of d).desk + k < last_instant → now d + suc k < last_instant
-    go Yes y ih = omega (arith, step_moves d g (taken_before_last d y))
-    go (No x) n ih =
+    go (Ok tt) y ih = omega (arith, step_moves d g (taken_before_last d y))
+    go (Err x) n ih =
         let here : now (step_of d).desk ≡ now d = ap (λ v. now (on_yes v (rewritten d (step (book d))) d)) n in
         absurd (yes_is_not_no x (sym (step_taken d g (omega arith)) ∙ n))
 
@@ -174,12 +174,12 @@ an_end_delays_nobody xs d hd n w D k other f = go (first_of (end_lines d n)) ref
     g = reached_is_good xs d hd
 
     go : (v : Verdict) → first_of (end_lines d n) ≡ v → FinishesWithin w D k (end_of d n).desk
-    go Yes y =
+    go (Ok tt) y =
         let read = end_book d g n y in
         no_later_lem d (end_of d n).desk g (end_is_good d g n) (ap (λ b. b.clock) read) w D k
         (λ e. subst (edf.FinishesWithin (who_of w) D k) (sym read) (ending_delays_nobody (book d) n g.sound (who_of w) D k (λ j. other (sym (who_again w) ∙ ap who_is j)) e))
         f
-    go (No x) y = subst (FinishesWithin w D k) (sym (ap (λ v. on_yes v (rewritten d (ending n (book d))) d) y)) (k, le_refl k, f)
+    go (Err x) y = subst (FinishesWithin w D k) (sym (ap (λ v. on_yes v (rewritten d (ending n (book d))) d) y)) (k, le_refl k, f)
 
 pub a_rest_delays_nobody : ARestDelaysNobody
 unfolding ARestDelaysNobody FinishesWithin rest_of resting
@@ -189,9 +189,9 @@ a_rest_delays_nobody xs d hd p w D k other f = go (first_of (rest_lines d p)) re
     g = reached_is_good xs d hd
 
     go : (v : Verdict) → first_of (rest_lines d p) ≡ v → FinishesWithin w D k (rest_of d p).desk
-    go Yes y =
+    go (Ok tt) y =
         let read = rest_book d g p y in
         no_later_lem d (rest_of d p).desk g (rest_is_good d g p) (ap (λ b. b.clock) read) w D k
         (λ e. subst (edf.FinishesWithin (who_of w) D k) (sym read) (resting_delays_nobody (book d) p g.sound (who_of w) D k other e))
         f
-    go (No x) y = subst (FinishesWithin w D k) (sym (ap (λ v. on_yes v (rewritten d (resting p (book d))) d) y)) (k, le_refl k, f)
+    go (Err x) y = subst (FinishesWithin w D k) (sym (ap (λ v. on_yes v (rewritten d (resting p (book d))) d) y)) (k, le_refl k, f)

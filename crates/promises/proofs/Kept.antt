@@ -8,8 +8,8 @@ use Rattle.ticks.specs.Ticks.{ticks}
 use Rattle.feeds.specs.Lines.{feeds_in}
 use Rattle.mesh.specs.Bands.{work_of}
 use Rattle.mesh.specs.Meshes.{triangles_of, mesh_lines}
-use Rattle.answers.specs.declared.Verdict.{Verdict}
-use Rattle.answers.specs.declared.Verdict.TheVariants.{Yes, No}
+use Rattle.answers.specs.Verdicts.{Verdict}
+use Rattle.std.specs.Prelude.{Ok, Err}
 use Rattle.answers.specs.Answers.{first_of}
 use Rattle.answers.proofs.Answers.{yes_is_not_no}
 use Rattle.edf.specs.Book.{job}
@@ -80,13 +80,13 @@ made_of [] x later d m a l = (a, l)
 made_of (b ∷ before) x later d m a l = (m.0, made_of before x later b.came.state m.1 a l)
 
 -- an ask with a mesh that is answered yes is an ordinary ask with the work of its band
-mesh_yes_is_asked : (d : Desk) (s : List ℕ) (size number lead : ℕ) (r : Answer) → AskedMesh d s size number lead r → r.verdict ≡ Yes
+mesh_yes_is_asked : (d : Desk) (s : List ℕ) (size number lead : ℕ) (r : Answer) → AskedMesh d s size number lead r → r.verdict ≡ Ok tt
     → Asked d number (work_of (triangles_of s)) lead r
 mesh_yes_is_asked d s size number lead r a y = go (first_of (disorder d ∷ mesh_lines s size)) refl
   where
     go : (v : Verdict) → first_of (disorder d ∷ mesh_lines s size) ≡ v → Asked d number (work_of (triangles_of s)) lead r
-    go Yes e = a.asked e
-    go (No x) e = absurd (yes_is_not_no x (sym y ∙ ap (λ k. k.verdict) (a.stopped x e)))
+    go (Ok tt) e = a.asked e
+    go (Err x) e = absurd (yes_is_not_no x (sym y ∙ ap (λ k. k.verdict) (a.stopped x e)))
 
 -- calls before an ask, the ask, and the calls after it
 module _ (o : Opening) (before : Calls) (x : Did Call Desk) (later : Calls) (m : Made (before ++ (x ∷ later)) (opened o)) where

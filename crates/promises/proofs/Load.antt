@@ -20,8 +20,8 @@ use Rattle.jobs.specs.declared.Job.{Job}
 use Rattle.jobs.specs.Jobs.{most_jobs, lacks, times, live}
 use Rattle.jobs.proofs.Numbers.{lacks_times, times_lacks}
 use Rattle.jobs.proofs.Places.{live_count}
-use Rattle.answers.specs.declared.Verdict.{Verdict}
-use Rattle.answers.specs.declared.Verdict.TheVariants.{Yes, No}
+use Rattle.answers.specs.Verdicts.{Verdict}
+use Rattle.std.specs.Prelude.{Ok, Err}
 use Rattle.answers.specs.Answers.{first_of}
 use Rattle.answers.proofs.Answers.{goes_on_lem, goes_past, no_line, yes_first, yes_both, yes_is_not_no}
 use Rattle.edf.specs.Book as edf
@@ -74,11 +74,11 @@ opening_plans : (o : Opening) → Laid o.feeds (opened o)
 opening_plans o = go (answer_to o).verdict refl
   where
     go : (v : Verdict) → (answer_to o).verdict ≡ v → Laid o.feeds (opened o)
-    go Yes y =
+    go (Ok tt) y =
         inl (ap (λ b. edf.plans b.feeds) (opening_book o y)
         ∙ opened_keeps_plans o.start (book_feeds (ticks o.charge) 1 (feeds_in o.feeds))
         ∙ ap (λ d. edf.plans (book_feeds d.ledger.charge 1 (feeds_in o.feeds))) (sym (opening_yes o y)))
-    go (No x) n = inr (ap book_plans (opening_no o x n))
+    go (Err x) n = inr (ap book_plans (opening_no o x n))
 
 -- and calls keep them
 reached_plans : (xs : List ℕ) (d : Desk) → Reached xs d → Laid xs d
@@ -141,7 +141,7 @@ live_numbers : (d : Desk) (n : ℕ) → total (λ k. eq n k.number) (book d).job
 unfolding eq
 live_numbers d n = total_map (λ k. eq n k.number) book_job (live d.ledger.table)
 
-judged_yes : (d : Desk) (j : Job) (r : Answer) → Judged d j r → Fits (with_job d j) → r.verdict ≡ Yes
+judged_yes : (d : Desk) (j : Job) (r : Answer) → Judged d j r → Fits (with_job d j) → r.verdict ≡ Ok tt
 unfolding Judged
 judged_yes d j r (inl k) f = ap (λ a. a.verdict) k.1
 judged_yes d j r (inr k) f = absurd (k.0 f)
@@ -164,16 +164,16 @@ module _ (c d : Desk) (gc : Good c) (gd : Good d) (clock : c.ledger.clock ≡ d.
       (less_says_yes (book c) (book d) q gc.sound.order gd.sound.order gd.sound.light less askable f).1
 
   -- no line that passes on the heavier stops on the lighter
-  lighter_lines : (number work lead : ℕ) → first_of (ask_lines d number (ticks work) (ticks lead)) ≡ Yes
-      → first_of (ask_lines c number (ticks work) (ticks lead)) ≡ Yes
+  lighter_lines : (number work lead : ℕ) → first_of (ask_lines d number (ticks work) (ticks lead)) ≡ Ok tt
+      → first_of (ask_lines c number (ticks work) (ticks lead)) ≡ Ok tt
   lighter_lines number work lead e =
       let passed = yes_both (request_lines d.ledger.clock number (ticks work) (ticks lead)) (place_lines d.ledger.table number) (yes_first (disorder d) _ e).1 in
-      let own : first_of (request_lines c.ledger.clock number (ticks work) (ticks lead)) ≡ Yes = rw clock passed.0 in
+      let own : first_of (request_lines c.ledger.clock number (ticks work) (ticks lead)) ≡ (Ok tt) = rw clock passed.0 in
       let free = yes_first _ _ passed.1 in
       let few : d.ledger.table.count < most_jobs = leb-false _ _ (yes_first _ _ free.1).0 in
-      goes_on_lem (disorder c) _ Yes (ap not gc.order)
+      goes_on_lem (disorder c) _ (Ok tt) (ap not gc.order)
       (goes_past (request_lines c.ledger.clock number (ticks work) (ticks lead)) (place_lines c.ledger.table number) own
-      ∙ goes_on_lem _ _ Yes (ap not (lighter_lacks number (not-false _ free.0))) (goes_on_lem _ [] Yes (lt-leb most_jobs c.ledger.table.count (omega (arith, fewer))) no_line))
+      ∙ goes_on_lem _ _ (Ok tt) (ap not (lighter_lacks number (not-false _ free.0))) (goes_on_lem _ [] (Ok tt) (lt-leb most_jobs c.ledger.table.count (omega (arith, fewer))) no_line))
     where
       fewer : c.ledger.table.count ≤ d.ledger.table.count
       fewer =
@@ -186,7 +186,7 @@ module _ (c d : Desk) (gc : Good c) (gd : Good d) (clock : c.ledger.clock ≡ d.
             live_count d.ledger.table (good_order d gd).tidy_table,
           )
 
-  lighter_asks : (number work lead : ℕ) (q r : Answer) → Asked d number work lead r → r.verdict ≡ Yes → Asked c number work lead q → q.verdict ≡ Yes
+  lighter_asks : (number work lead : ℕ) (q r : Answer) → Asked d number work lead r → r.verdict ≡ Ok tt → Asked c number work lead q → q.verdict ≡ Ok tt
   lighter_asks number work lead q r a y b =
       let p = said_yes d number work lead r a y in
       let m = admissible d number work lead gd.sized p in
@@ -194,15 +194,15 @@ module _ (c d : Desk) (gc : Good c) (gd : Good d) (clock : c.ledger.clock ≡ d.
       (lighter_fits number work lead m.job.owed.0 (omega (arith, m.job.ahead)) (times_lacks number (live d.ledger.table) m.free)
       (judged_fits d (requested d number work lead) r (a.judged p) y))
 
-  lighter_meshes : (s : List ℕ) (size number lead : ℕ) (q r : Answer) → AskedMesh d s size number lead r → r.verdict ≡ Yes
-      → AskedMesh c s size number lead q → q.verdict ≡ Yes
+  lighter_meshes : (s : List ℕ) (size number lead : ℕ) (q r : Answer) → AskedMesh d s size number lead r → r.verdict ≡ Ok tt
+      → AskedMesh c s size number lead q → q.verdict ≡ Ok tt
   lighter_meshes s size number lead q r a y b = go (first_of (disorder d ∷ mesh_lines s size)) refl
     where
-      go : (v : Verdict) → first_of (disorder d ∷ mesh_lines s size) ≡ v → q.verdict ≡ Yes
-      go Yes e =
+      go : (v : Verdict) → first_of (disorder d ∷ mesh_lines s size) ≡ v → q.verdict ≡ Ok tt
+      go (Ok tt) e =
           lighter_asks number (work_of (triangles_of s)) lead q r (a.asked e) y
-          (b.asked (goes_on_lem (disorder c) (mesh_lines s size) Yes (ap not gc.order) (yes_first (disorder d) (mesh_lines s size) e).1))
-      go (No x) e = absurd (yes_is_not_no x (sym y ∙ ap (λ k. k.verdict) (a.stopped x e)))
+          (b.asked (goes_on_lem (disorder c) (mesh_lines s size) (Ok tt) (ap not gc.order) (yes_first (disorder d) (mesh_lines s size) e).1))
+      go (Err x) e = absurd (yes_is_not_no x (sym y ∙ ap (λ k. k.verdict) (a.stopped x e)))
 
   lighter_grants : GrantsToo c d
   lighter_grants = record { fits = λ number work lead w. lighter_fits number work lead (omega arith); ask = lighter_asks; mesh = lighter_meshes }

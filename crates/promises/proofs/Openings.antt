@@ -4,8 +4,8 @@ use Rattle.ticks.specs.Ticks.{ticks, instant}
 use Rattle.feeds.specs.Lines.{feeds_in, Passing}
 use Rattle.shares.specs.Shares as shares
 use Rattle.answers.specs.declared.Refusal.{Refusal}
-use Rattle.answers.specs.declared.Verdict.{Verdict}
-use Rattle.answers.specs.declared.Verdict.TheVariants.{Yes, No}
+use Rattle.answers.specs.Verdicts.{Verdict}
+use Rattle.std.specs.Prelude.{Ok, Err}
 use Rattle.answers.specs.Answers.{on_yes}
 use Rattle.edf.specs.Load as load
 use Rattle.ledger.specs.Books.{book_feeds}
@@ -29,21 +29,21 @@ opening_good o = go o.carried
 abbrev pub laid_out : Opening → Desk
 laid_out o = opened_desk (feeds_in o.feeds) (ticks o.charge) (instant o.start)
 
-pub opening_yes : (o : Opening) → (answer_to o).verdict ≡ Yes → opened o ≡ sharing (given o.carried) (laid_out o)
+pub opening_yes : (o : Opening) → (answer_to o).verdict ≡ Ok tt → opened o ≡ sharing (given o.carried) (laid_out o)
 unfolding opened_of opened_shared_of
 opening_yes o = go o.carried
   where
-    go : (c : Carried) → (answer_with c o.feeds o.start o.charge).verdict ≡ Yes
+    go : (c : Carried) → (answer_with c o.feeds o.start o.charge).verdict ≡ Ok tt
         → (answer_with c o.feeds o.start o.charge).desk ≡ sharing (given c) (laid_out o)
     go nothing y = ap (λ v. on_yes v (laid_out o) empty) y
     go (share p q) y = ap (λ v. on_yes v (sharing (shares.share p q) (laid_out o)) empty) y
 
 -- and a refusal
-pub opening_no : (o : Opening) (x : Refusal) → (answer_to o).verdict ≡ No x → opened o ≡ empty
+pub opening_no : (o : Opening) (x : Refusal) → (answer_to o).verdict ≡ Err x → opened o ≡ empty
 unfolding opened_of opened_shared_of
 opening_no o x = go o.carried
   where
-    go : (c : Carried) → (answer_with c o.feeds o.start o.charge).verdict ≡ No x
+    go : (c : Carried) → (answer_with c o.feeds o.start o.charge).verdict ≡ Err x
         → (answer_with c o.feeds o.start o.charge).desk ≡ empty
     go nothing n = ap (λ v. on_yes v (laid_out o) empty) n
     go (share p q) n = ap (λ v. on_yes v (sharing (shares.share p q) (laid_out o)) empty) n
@@ -54,10 +54,10 @@ module _ {A : Type 0} (f : Desk → A) (a : A) (o : Opening) where
   either_opening e h = go (answer_to o).verdict refl
     where
       go : (v : Verdict) → (answer_to o).verdict ≡ v → f (opened o) ≡ a
-      go Yes y = ap f (opening_yes o y) ∙ h
-      go (No x) n = ap f (opening_no o x n) ∙ e
+      go (Ok tt) y = ap f (opening_yes o y) ∙ h
+      go (Err x) n = ap f (opening_no o x n) ∙ e
 
-module _ (o : Opening) (y : (answer_to o).verdict ≡ Yes) where
+module _ (o : Opening) (y : (answer_to o).verdict ≡ Ok tt) where
   -- an opening that is not refused, read as a book
   pub opening_book : book (opened o) ≡ load.opened o.start (book_feeds (ticks o.charge) 1 (feeds_in o.feeds))
   opening_book = ap book (opening_yes o y) ∙ opened_book (feeds_in o.feeds) (ticks o.charge) (instant o.start)
@@ -67,6 +67,6 @@ module _ (o : Opening) (y : (answer_to o).verdict ≡ Yes) where
   unfolding opened_of opened_shared_of
   opening_passing = go o.carried y
     where
-      go : (c : Carried) → (answer_with c o.feeds o.start o.charge).verdict ≡ Yes → Passing (ticks o.charge) (feeds_in o.feeds)
+      go : (c : Carried) → (answer_with c o.feeds o.start o.charge).verdict ≡ Ok tt → Passing (ticks o.charge) (feeds_in o.feeds)
       go nothing e = (opening_passes o.feeds o.start o.charge e).0
       go (share p q) e = (shared_passes o.feeds o.start o.charge p q e).1

@@ -11,7 +11,7 @@ use Rattle.mesh.specs.Bands.{work_of}
 use Rattle.mesh.specs.Meshes.{triangles_of}
 use Rattle.jobs.specs.declared.Job.{Job}
 use Rattle.answers.specs.declared.Refusal.TheVariants.{DoesNotFit}
-use Rattle.answers.specs.declared.Verdict.TheVariants.{Yes, No}
+use Rattle.std.specs.Prelude.{Ok, Err}
 use Rattle.answers.specs.Answers.{first_of}
 use Rattle.edf.specs.Fits.{Fits}
 use Rattle.edf.specs.Step.{step}
@@ -35,12 +35,12 @@ use Rattle.desk.proofs.Reachable.{admissible_askable, rewritten_sized, step_few}
 use Rattle.promises.specs.Overbooked.{GetsSix, OverbookedTakesNothing, ALateJobStays, OwesNothing, ALatePieceGivesWay}
 use Rattle.promises.proofs.Exact.{steps_in_order, step_hands_back, step_read}
 
-judged_no : (d : Desk) (j : Job) (r : Answer) → (Fits (with_job d j) → ⊥) → Judged d j r → r ≡ record { desk = d; verdict = No DoesNotFit }
+judged_no : (d : Desk) (j : Job) (r : Answer) → (Fits (with_job d j) → ⊥) → Judged d j r → r ≡ record { desk = d; verdict = Err DoesNotFit }
 unfolding Judged
 judged_no d j r n (inl y) = absurd (n y.0)
 judged_no d j r n (inr k) = k.1
 
-ask_gets_six : (d : Desk) → Sized d.ledger → (Fits (book d) → ⊥) → (number work lead : ℕ) (r : Answer) → first_of (ask_lines d number (ticks work) (ticks lead)) ≡ Yes
+ask_gets_six : (d : Desk) → Sized d.ledger → (Fits (book d) → ⊥) → (number work lead : ℕ) (r : Answer) → first_of (ask_lines d number (ticks work) (ticks lead)) ≡ Ok tt
     → Asked d number work lead r → GetsSix d r
 ask_gets_six d s n number work lead r e a =
     let j = requested d number work lead in
@@ -69,7 +69,7 @@ out_of_order d s n = go (in_order d) refl
     go false e = refl
 
 -- a step hands back a state of as many places
-step_sized : (d : Desk) → Sized d.ledger → first_of (step_lines d) ≡ Yes → Sized (step_of d).desk.ledger
+step_sized : (d : Desk) → Sized d.ledger → first_of (step_lines d) ≡ Ok tt → Sized (step_of d).desk.ledger
 step_sized d s e =
     let o = steps_in_order d s e in
     subst (λ c. Sized c.ledger) (sym (step_hands_back d s e))

@@ -1,4 +1,4 @@
--- No call changes the charge, nor the share; and what is remembered changes with a yes to an ask with no date alone.
+-- Err call changes the charge, nor the share; and what is remembered changes with a yes to an ask with no date alone.
 use mathlib.Core.Path.{◌≡◌, refl, sym, ap, subst, ◌∙◌}
 use mathlib.Core.Logic.{inl, inr}
 use mathlib.Core.List.{List, [], ◌∷◌}
@@ -8,8 +8,8 @@ use Rattle.ticks.specs.Ticks.{ticks, instant}
 use Rattle.mesh.specs.Bands.{work_of}
 use Rattle.mesh.specs.Meshes.{triangles_of, mesh_lines}
 use Rattle.jobs.specs.declared.Job.{Job}
-use Rattle.answers.specs.declared.Verdict.{Verdict}
-use Rattle.answers.specs.declared.Verdict.TheVariants.{Yes, No}
+use Rattle.answers.specs.Verdicts.{Verdict}
+use Rattle.std.specs.Prelude.{Ok, Err}
 use Rattle.answers.specs.Answers.{first_of, on_yes}
 use Rattle.edf.specs.Book.{Book}
 use Rattle.edf.specs.Step as edf
@@ -33,8 +33,8 @@ use Rattle.promises.proofs.Openings.{opening_yes, either_opening}
 module _ {A : Type 0} (f : Desk → A) (written : (d : Desk) (b : Book) → f (rewritten d b) ≡ f d) where
   -- whichever is handed back, a book written into the desk or the desk as it was
   either : (v : Verdict) (d : Desk) (b : Book) → f (on_yes v (rewritten d b) d) ≡ f d
-  either Yes d b = written d b
-  either (No x) d b = refl
+  either (Ok tt) d b = written d b
+  either (Err x) d b = refl
 
   judged_keeps : (d : Desk) (j : Job) (r : Answer) → Judged d j r → f r.desk ≡ f d
   unfolding Judged
@@ -45,15 +45,15 @@ module _ {A : Type 0} (f : Desk → A) (written : (d : Desk) (b : Book) → f (r
   ask_keeps d number work lead r a = go (first_of (ask_lines d number (ticks work) (ticks lead))) refl
     where
       go : (v : Verdict) → first_of (ask_lines d number (ticks work) (ticks lead)) ≡ v → f r.desk ≡ f d
-      go Yes e = judged_keeps d (requested d number work lead) r (a.judged e)
-      go (No x) e = ap (λ q. f q.desk) (a.stopped x e)
+      go (Ok tt) e = judged_keeps d (requested d number work lead) r (a.judged e)
+      go (Err x) e = ap (λ q. f q.desk) (a.stopped x e)
 
   mesh_keeps : (d : Desk) (s : List ℕ) (size number lead : ℕ) (r : Answer) → AskedMesh d s size number lead r → f r.desk ≡ f d
   mesh_keeps d s size number lead r a = go (first_of (disorder d ∷ mesh_lines s size)) refl
     where
       go : (v : Verdict) → first_of (disorder d ∷ mesh_lines s size) ≡ v → f r.desk ≡ f d
-      go Yes e = ask_keeps d number (work_of (triangles_of s)) lead r (a.asked e)
-      go (No x) e = ap (λ q. f q.desk) (a.stopped x e)
+      go (Ok tt) e = ask_keeps d number (work_of (triangles_of s)) lead r (a.asked e)
+      go (Err x) e = ap (λ q. f q.desk) (a.stopped x e)
 
   -- one call, if it is so of an ask with no date
   call_keeps_if : (x : Did Call Desk) (d : Desk) → allows x.call d x.came
@@ -74,17 +74,17 @@ module _ {A : Type 0} (f : Desk → A) (written : (d : Desk) (b : Book) → f (r
 -- and a deadline that is remembered too
 module _ {A : Type 0} (f : Desk → A) (written : (d : Desk) (b : Book) → f (rewritten d b) ≡ f d) (remembered : (t : Instant) (d : Desk) → f (since t d) ≡ f d) where
   last_or_not : (v : Verdict) (t : Instant) (d : Desk) → f (on_yes v (since t d) d) ≡ f d
-  last_or_not Yes t d = remembered t d
-  last_or_not (No x) t d = refl
+  last_or_not (Ok tt) t d = remembered t d
+  last_or_not (Err x) t d = refl
 
   undated_keeps : (d : Desk) (number work : ℕ) (r : Answer) → AskedUndated d number work r → f r.desk ≡ f d
   undated_keeps d number work r a = go (first_of (undated_lines d number)) refl
     where
       go : (v : Verdict) → first_of (undated_lines d number) ≡ v → f r.desk ≡ f d
-      go Yes e =
+      go (Ok tt) e =
           let (b, k, same) = a.asked e in
           ap (λ q. f q.desk) same ∙ last_or_not b.verdict (instant (undated_deadline d work)) b.desk ∙ ask_keeps f written d number work (undated_lead d work) b k
-      go (No x) e = ap (λ q. f q.desk) (a.stopped x e)
+      go (Err x) e = ap (λ q. f q.desk) (a.stopped x e)
 
   -- one call
   call_keeps : (x : Did Call Desk) (d : Desk) → allows x.call d x.came → f x.came.state ≡ f d
@@ -109,7 +109,7 @@ pub calls_keep_share : (cs : Calls) (d : Desk) → Made cs d → (after cs d).sh
 calls_keep_share = calls_keep (λ d. d.share) (λ d b. refl) (λ t d. refl)
 
 -- a yes to an ask with no date is remembered by its deadline
-pub undated_remembered : (d : Desk) (number work : ℕ) (r : Answer) → AskedUndated d number work r → r.verdict ≡ Yes → r.desk.previous.0 ≡ undated_deadline d work
+pub undated_remembered : (d : Desk) (number work : ℕ) (r : Answer) → AskedUndated d number work r → r.verdict ≡ Ok tt → r.desk.previous.0 ≡ undated_deadline d work
 undated_remembered d number work r a y = let (b, k, said, same, s) = undated_yes d number work r a y in ap (λ e. e.previous.0) same
 
 -- and no other call changes what is remembered
@@ -120,8 +120,8 @@ others_keep x d a n = call_keeps_if (λ e. e.previous) (λ e b. refl) x d a unda
     undated number work r c h = go r.verdict refl
       where
         go : (v : Verdict) → r.verdict ≡ v → r.desk.previous ≡ d.previous
-        go Yes y = absurd (n (subst TakesUndated (sym c) y))
-        go (No z) m = ap (λ e. e.previous) (undated_refused d number work r h z m)
+        go (Ok tt) y = absurd (n (subst TakesUndated (sym c) y))
+        go (Err z) m = ap (λ e. e.previous) (undated_refused d number work r h z m)
 
 pub the_last_is_remembered : TheLastIsRemembered
 the_last_is_remembered =

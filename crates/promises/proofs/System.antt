@@ -10,8 +10,8 @@ use Rattle.mesh.specs.Meshes.{triangles_of, mesh_lines}
 use Rattle.jobs.specs.declared.Job.{Job}
 use Rattle.answers.specs.declared.Who.TheVariants.{Idle}
 use Rattle.answers.specs.declared.Refusal.TheVariants.{DoesNotFit}
-use Rattle.answers.specs.declared.Verdict.{Verdict}
-use Rattle.answers.specs.declared.Verdict.TheVariants.{Yes, No}
+use Rattle.answers.specs.Verdicts.{Verdict}
+use Rattle.std.specs.Prelude.{Ok, Err}
 use Rattle.answers.specs.Answers.{first_of, is_yes, on_yes}
 use Rattle.answers.proofs.Answers.{yes_is_not_no}
 use Rattle.edf.specs.Fits.{Fits}
@@ -37,7 +37,7 @@ use Rattle.questions.specs.Meshes.{AskedMesh}
 use Rattle.promises.specs.Runs.{Call, ask, ask_mesh, ask_undated, step, end, rest, look, quiet, told, allows, Ends, Rests}
 
 -- a job that is taken fits
-pub judged_fits : (d : Desk) (j : Job) (r : Answer) → Judged d j r → r.verdict ≡ Yes → Fits (with_job d j)
+pub judged_fits : (d : Desk) (j : Job) (r : Answer) → Judged d j r → r.verdict ≡ Ok tt → Fits (with_job d j)
 unfolding Judged
 judged_fits d j r (inl k) y = k.0
 judged_fits d j r (inr k) y = absurd (yes_is_not_no DoesNotFit (sym y ∙ ap (λ a. a.verdict) k.1))
@@ -58,7 +58,7 @@ module _ (x : Did Call Desk) (d : Desk) (g : Good d) where
       state = ap (λ c. c.state) e
 
       go : (v : Verdict) → r.verdict ≡ v → Followed
-      go Yes y =
+      go (Ok tt) y =
           let p = said_yes d number work lead r a y in
           let j = requested d number work lead in (
             subst Good (sym state) (ask_is_good d g number work lead r a),
@@ -66,15 +66,15 @@ module _ (x : Did Call Desk) (d : Desk) (g : Good d) where
                 (subst (λ c. Reordered (with_job d j) (book c)) (sym state) (ask_book d g number work lead r a y))
                 (ap (λ c. c.ticks) e),
           )
-      go (No z) n = unchanged (state ∙ ask_refused d number work lead r a z n) (ap (λ c. c.ticks) e)
+      go (Err z) n = unchanged (state ∙ ask_refused d number work lead r a z n) (ap (λ c. c.ticks) e)
 
   -- an ask with a mesh: an ordinary ask, or refused by a line of its own
   mesh_followed : (s : List ℕ) (size number lead : ℕ) (r : Answer) → AskedMesh d s size number lead r → x.came ≡ quiet r.desk → Followed
   mesh_followed s size number lead r a e = go (first_of (disorder d ∷ mesh_lines s size)) refl
     where
       go : (v : Verdict) → first_of (disorder d ∷ mesh_lines s size) ≡ v → Followed
-      go Yes y = ask_followed number (work_of (triangles_of s)) lead r (a.asked y) e
-      go (No z) n = unchanged (ap (λ c. c.state) e ∙ ap (λ k. k.desk) (a.stopped z n)) (ap (λ c. c.ticks) e)
+      go (Ok tt) y = ask_followed number (work_of (triangles_of s)) lead r (a.asked y) e
+      go (Err z) n = unchanged (ap (λ c. c.state) e ∙ ap (λ k. k.desk) (a.stopped z n)) (ap (λ c. c.ticks) e)
 
   -- an ask with no date: taken by an ordinary ask with the lead of the rule, or refused
   undated_followed : (number work : ℕ) (r : Answer) → AskedUndated d number work r → x.came ≡ quiet r.desk → Followed
@@ -84,7 +84,7 @@ module _ (x : Did Call Desk) (d : Desk) (g : Good d) where
       state = ap (λ c. c.state) e
 
       go : (v : Verdict) → r.verdict ≡ v → Followed
-      go Yes y =
+      go (Ok tt) y =
           let (b, k, said, same, s) = undated_yes d number work r a y in
           let lead = undated_lead d work in
           let p = said_yes d number work lead b k said in
@@ -94,7 +94,7 @@ module _ (x : Did Call Desk) (d : Desk) (g : Good d) where
                 (subst (λ c. Reordered (with_job d j) (book c)) (sym state) (undated_book d number work r a g y))
                 (ap (λ c. c.ticks) e),
           )
-      go (No z) n = unchanged (state ∙ undated_refused d number work r a z n) (ap (λ c. c.ticks) e)
+      go (Err z) n = unchanged (state ∙ undated_refused d number work r a z n) (ap (λ c. c.ticks) e)
 
   -- a step: taken, or refused
   step_followed : x.came ≡ told (step_of d) → Followed
@@ -102,13 +102,13 @@ module _ (x : Did Call Desk) (d : Desk) (g : Good d) where
   step_followed e = go (first_of (step_lines d)) refl
     where
       go : (v : Verdict) → first_of (step_lines d) ≡ v → Followed
-      go Yes y = (
+      go (Ok tt) y = (
         subst Good (sym (ap (λ c. c.state) e)) (step_is_good d g),
         steps_once book Ends Rests x d (ap (λ c. book c.state) e ∙ step_book d g y) (ap (λ c. c.ticks) e ∙ ap (λ v. bit (is_yes v)) y)
             (ap (λ c. c.who) e ∙ ap (λ v. who_of (on_yes v (who_is (edf.ran (book d)).who) Idle)) y ∙ who_back (edf.ran (book d)).who)
             (ap (λ c. c.owes) e ∙ ap (λ v. (on_yes v (ticks (edf.ran (book d)).owes) (ticks 0)).0) y),
       )
-      go (No z) n =
+      go (Err z) n =
           unchanged (ap (λ c. c.state) e ∙ ap (λ v. on_yes v (rewritten d (edf.step (book d))) d) n)
           (ap (λ c. c.ticks) e ∙ ap (λ v. bit (is_yes v)) n)
 
@@ -121,11 +121,11 @@ module _ (x : Did Call Desk) (d : Desk) (g : Good d) where
       state = ap (λ k. k.state) e ∙ ap (λ k. k.desk) a
 
       go : (v : Verdict) → first_of (end_lines d n) ≡ v → Followed
-      go Yes y = (
+      go (Ok tt) y = (
         subst Good (sym state) (end_is_good d g n),
         ends_a_job book Ends Rests x d n (ap book state ∙ end_book d g n y) (ap (λ k. k.ticks) e) (r, c, ap (λ k. k.verdict) a ∙ y),
       )
-      go (No z) m = unchanged (state ∙ ap (λ v. on_yes v (rewritten d (calls.ending n (book d))) d) m) (ap (λ k. k.ticks) e)
+      go (Err z) m = unchanged (state ∙ ap (λ v. on_yes v (rewritten d (calls.ending n (book d))) d) m) (ap (λ k. k.ticks) e)
 
   -- a rest: of a piece that owes something, or refused
   rest_followed : (p : ℕ) (r : Answer) → x.call ≡ rest p r → r ≡ rest_of d p → x.came ≡ quiet r.desk → Followed
@@ -136,11 +136,11 @@ module _ (x : Did Call Desk) (d : Desk) (g : Good d) where
       state = ap (λ k. k.state) e ∙ ap (λ k. k.desk) a
 
       go : (v : Verdict) → first_of (rest_lines d p) ≡ v → Followed
-      go Yes y = (
+      go (Ok tt) y = (
         subst Good (sym state) (rest_is_good d g p),
         rests_a_feed book Ends Rests x d p (ap book state ∙ rest_book d g p y) (ap (λ k. k.ticks) e) (r, c, ap (λ k. k.verdict) a ∙ y),
       )
-      go (No z) m = unchanged (state ∙ ap (λ v. on_yes v (rewritten d (calls.resting p (book d))) d) m) (ap (λ k. k.ticks) e)
+      go (Err z) m = unchanged (state ∙ ap (λ v. on_yes v (rewritten d (calls.resting p (book d))) d) m) (ap (λ k. k.ticks) e)
 
 -- THE ONE PLACE: which call it is
 pub follows : (x : Did Call Desk) (d : Desk) → Good d → allows x.call d x.came → Good x.came.state × Makes book Ends Rests x d

@@ -13,10 +13,11 @@ use Rattle.jobs.specs.declared.Job.{Job}
 use Rattle.answers.specs.declared.Who.TheVariants.{Idle}
 use Rattle.answers.specs.declared.Refusal.{Refusal}
 use Rattle.answers.specs.declared.Refusal.TheVariants.{DoesNotFit}
-use Rattle.answers.specs.declared.Verdict.{Verdict}
-use Rattle.answers.specs.declared.Verdict.TheVariants.{Yes, No}
-use Rattle.answers.specs.Answers.{Line, line, first_of, on_yes}
-use Rattle.answers.proofs.Answers.{stops, goes_on_lem, no_line, yes_first, yes_is_not_no}
+use Rattle.answers.specs.Verdicts.{Verdict}
+use Rattle.std.specs.Prelude.{Ok, Err}
+use Rattle.std.specs.Result.{result_unwrap_or}
+use Rattle.answers.specs.Answers.{Line, line, first_of, on_yes, yes_with}
+use Rattle.answers.proofs.Answers.{stops, goes_on_lem, no_line, yes_first, yes_is_not_no, told_verdict}
 use Rattle.edf.specs.Fits.{Fits}
 use Rattle.edf.specs.Step.{ran, step}
 use Rattle.ledger.specs.Books.{who_is}
@@ -25,7 +26,9 @@ use Rattle.desk.specs.declared.Answer.{Answer}
 use Rattle.shares.specs.Shares.{share}
 use Rattle.desk.specs.State.{book, rewritten, sharing, empty}
 use Rattle.desk.specs.Opening.{opened_desk, opened_of, opened_shared_of}
-use Rattle.desk.specs.Calls.{disorder, step_of, end_of, rest_of, counted_of, listed_of}
+use Rattle.desk.specs.Calls.{disorder, step_of, end_of, rest_of, list_lines, counted_of, listed_of}
+use Rattle.jobs.specs.Jobs.{live}
+use lib.ListN.{length}
 use Rattle.desk.specs.Asking.{ask_lines, requested, with_job, Judged, Asked}
 use Rattle.desk.specs.Undated.{undated_lines, undated_lead, AskedUndated}
 use Rattle.desk.proofs.Good.{ask_refused, undated_refused}
@@ -37,15 +40,15 @@ past : (ls ms : List Line) (v : Verdict) → Each (λ l. l.holds ≡ false) ls �
 past [] ms v n e = e
 past (l ∷ ls) ms v n e = goes_on_lem l (ls ++ ms) v n.0 (past ls ms v n.1 e)
 
-no_same : (x y : Refusal) → No x ≡ No y → x ≡ y
+no_same : (x y : Refusal) → ◌≡◌ {A = Verdict} (Err x) (Err y) → x ≡ y
 no_same x y e = cc
 
 -- the first line that holds is the refusal's
-first_holds : (ls : List Line) (x : Refusal) → first_of ls ≡ No x → FirstThatHolds ls x
+first_holds : (ls : List Line) (x : Refusal) → first_of ls ≡ Err x → FirstThatHolds ls x
 first_holds [] x e = absurd (yes_is_not_no x (sym no_line ∙ e))
 first_holds (l ∷ ls) x e = go l.holds refl (first_holds ls x)
   where
-    go : (b : Bool) → l.holds ≡ b → (first_of ls ≡ No x → FirstThatHolds ls x) → FirstThatHolds (l ∷ ls) x
+    go : (b : Bool) → l.holds ≡ b → (first_of ls ≡ Err x → FirstThatHolds ls x) → FirstThatHolds (l ∷ ls) x
     go true h ih =
         let same : l.refusal ≡ x = no_same l.refusal x (sym (stops l ls h) ∙ e) in
         record { before = []; later = ls; stands = λ i. record { holds = h i; refusal = same i } ∷ ls; none = tt }
@@ -53,64 +56,64 @@ first_holds (l ∷ ls) x e = go l.holds refl (first_holds ls x)
         let t = ih (sym (goes_on_lem l ls (first_of ls) h refl) ∙ e) in
         record { before = l ∷ t.before; later = t.later; stands = ap (l ∷◌) t.stands; none = (h, t.none) }
 
-first_is : (ls : List Line) (x : Refusal) → FirstThatHolds ls x → first_of ls ≡ No x
+first_is : (ls : List Line) (x : Refusal) → FirstThatHolds ls x → first_of ls ≡ Err x
 first_is ls x t =
-    ap first_of t.stands ∙ past t.before (line true x ∷ t.later) (No x) t.none (stops (line true x) t.later refl)
+    ap first_of t.stands ∙ past t.before (line true x ∷ t.later) (Err x) t.none (stops (line true x) t.later refl)
 
-none_holds : (ls : List Line) → first_of ls ≡ Yes → Each (λ l. l.holds ≡ false) ls
+none_holds : (ls : List Line) → first_of ls ≡ Ok tt → Each (λ l. l.holds ≡ false) ls
 none_holds [] e = tt
 none_holds (l ∷ ls) e = let t = yes_first l ls e in (t.0, none_holds ls t.1)
 
-all_pass : (ls : List Line) → Each (λ l. l.holds ≡ false) ls → first_of ls ≡ Yes
+all_pass : (ls : List Line) → Each (λ l. l.holds ≡ false) ls → first_of ls ≡ Ok tt
 all_pass [] n = no_line
-all_pass (l ∷ ls) n = goes_on_lem l ls Yes n.0 (all_pass ls n.1)
+all_pass (l ∷ ls) n = goes_on_lem l ls (Ok tt) n.0 (all_pass ls n.1)
 
 -- an ask that no line stops is refused with 6, and only where it does not fit
-judged_refusal : (d : Desk) (j : Job) (r : Answer) (x : Refusal) → Judged d j r → r.verdict ≡ No x → (x ≡ DoesNotFit) × (Fits (with_job d j) → ⊥)
+judged_refusal : (d : Desk) (j : Job) (r : Answer) (x : Refusal) → Judged d j r → r.verdict ≡ Err x → (x ≡ DoesNotFit) × (Fits (with_job d j) → ⊥)
 unfolding Judged
 judged_refusal d j r x (inl y) e = absurd (yes_is_not_no x (sym (ap (λ a. a.verdict) y.1) ∙ e))
 judged_refusal d j r x (inr n) e = (no_same x DoesNotFit (sym e ∙ ap (λ a. a.verdict) n.1), n.0)
 
-judged_six : (d : Desk) (j : Job) (r : Answer) → Judged d j r → (Fits (with_job d j) → ⊥) → r.verdict ≡ No DoesNotFit
+judged_six : (d : Desk) (j : Job) (r : Answer) → Judged d j r → (Fits (with_job d j) → ⊥) → r.verdict ≡ Err DoesNotFit
 unfolding Judged
 judged_six d j r (inl y) f = absurd (f y.0)
 judged_six d j r (inr n) f = ap (λ a. a.verdict) n.1
 
 ask_listed : (d : Desk) (number work lead : ℕ) (r : Answer) → Asked d number work lead r
-    → (x : Refusal) → (r.verdict ≡ No x) ↔ AskRefused d number work lead x
+    → (x : Refusal) → (r.verdict ≡ Err x) ↔ AskRefused d number work lead x
 ask_listed d number work lead r a x = (λ n. told (first_of (ask_lines d number (ticks work) (ticks lead))) refl n, given)
   where
-    told : (v : Verdict) → first_of (ask_lines d number (ticks work) (ticks lead)) ≡ v → r.verdict ≡ No x → AskRefused d number work lead x
-    told Yes e n = let t = judged_refusal d (requested d number work lead) r x (a.judged e) n in inr (e, t.0, t.1)
-    told (No y) e n = inl (e ∙ sym (ap (λ k. k.verdict) (a.stopped y e)) ∙ n)
+    told : (v : Verdict) → first_of (ask_lines d number (ticks work) (ticks lead)) ≡ v → r.verdict ≡ Err x → AskRefused d number work lead x
+    told (Ok tt) e n = let t = judged_refusal d (requested d number work lead) r x (a.judged e) n in inr (e, t.0, t.1)
+    told (Err y) e n = inl (e ∙ sym (ap (λ k. k.verdict) (a.stopped y e)) ∙ n)
 
-    given : AskRefused d number work lead x → r.verdict ≡ No x
+    given : AskRefused d number work lead x → r.verdict ≡ Err x
     given (inl e) = ap (λ k. k.verdict) (a.stopped x e)
-    given (inr t) = judged_six d (requested d number work lead) r (a.judged t.0) t.2 ∙ ap No (sym t.1)
+    given (inr t) = judged_six d (requested d number work lead) r (a.judged t.0) t.2 ∙ ap Err (sym t.1)
 
 mesh_listed : (d : Desk) (s : List ℕ) (size number lead : ℕ) (r : Answer) → AskedMesh d s size number lead r
-    → (x : Refusal) → (r.verdict ≡ No x) ↔ MeshRefused d s size number lead x
+    → (x : Refusal) → (r.verdict ≡ Err x) ↔ MeshRefused d s size number lead x
 mesh_listed d s size number lead r a x = (λ n. told (first_of (disorder d ∷ mesh_lines s size)) refl n, given)
   where
-    told : (v : Verdict) → first_of (disorder d ∷ mesh_lines s size) ≡ v → r.verdict ≡ No x → MeshRefused d s size number lead x
-    told Yes e n = inr (e, (ask_listed d number (work_of (triangles_of s)) lead r (a.asked e) x).0 n)
-    told (No y) e n = inl (e ∙ sym (ap (λ k. k.verdict) (a.stopped y e)) ∙ n)
+    told : (v : Verdict) → first_of (disorder d ∷ mesh_lines s size) ≡ v → r.verdict ≡ Err x → MeshRefused d s size number lead x
+    told (Ok tt) e n = inr (e, (ask_listed d number (work_of (triangles_of s)) lead r (a.asked e) x).0 n)
+    told (Err y) e n = inl (e ∙ sym (ap (λ k. k.verdict) (a.stopped y e)) ∙ n)
 
-    given : MeshRefused d s size number lead x → r.verdict ≡ No x
+    given : MeshRefused d s size number lead x → r.verdict ≡ Err x
     given (inl e) = ap (λ k. k.verdict) (a.stopped x e)
     given (inr t) = (ask_listed d number (work_of (triangles_of s)) lead r (a.asked t.0) x).1 t.1
 
 undated_listed : (d : Desk) (number work : ℕ) (r : Answer) → AskedUndated d number work r
-    → (x : Refusal) → (r.verdict ≡ No x) ↔ UndatedRefused d number work x
+    → (x : Refusal) → (r.verdict ≡ Err x) ↔ UndatedRefused d number work x
 undated_listed d number work r a x = (λ n. told (first_of (undated_lines d number)) refl n, given)
   where
-    told : (v : Verdict) → first_of (undated_lines d number) ≡ v → r.verdict ≡ No x → UndatedRefused d number work x
-    told Yes e n =
+    told : (v : Verdict) → first_of (undated_lines d number) ≡ v → r.verdict ≡ Err x → UndatedRefused d number work x
+    told (Ok tt) e n =
         let (b, k, same) = a.asked e in
         inr (e, (ask_listed d number work (undated_lead d work) b k x).0 (sym (ap (λ q. q.verdict) same) ∙ n))
-    told (No y) e n = inl (e ∙ sym (ap (λ k. k.verdict) (a.stopped y e)) ∙ n)
+    told (Err y) e n = inl (e ∙ sym (ap (λ k. k.verdict) (a.stopped y e)) ∙ n)
 
-    given : UndatedRefused d number work x → r.verdict ≡ No x
+    given : UndatedRefused d number work x → r.verdict ≡ Err x
     given (inl e) = ap (λ k. k.verdict) (a.stopped x e)
     given (inr t) =
         let (b, k, same) = a.asked t.0 in
@@ -130,21 +133,21 @@ the_refusal_listed =
       step = λ d. refl;
       end = λ d n. refl;
       rest = λ d p. refl;
-      list = λ d size. refl;
+      list = λ d size. told_verdict (first_of (list_lines d size)) (length (live d.ledger.table));
     }
 
 -- what is handed back beside a refusal
-refused : {A : Type 0} (v : Verdict) (x : Refusal) (new old : A) → v ≡ No x → on_yes v new old ≡ old
+refused : {A : Type 0} (v : Verdict) (x : Refusal) (new old : A) → v ≡ Err x → on_yes v new old ≡ old
 refused v x new old e = ap (λ w. on_yes w new old) e
 
-mesh_refused : (d : Desk) (s : List ℕ) (size number lead : ℕ) (r : Answer) (x : Refusal) → AskedMesh d s size number lead r → r.verdict ≡ No x → r.desk ≡ d
+mesh_refused : (d : Desk) (s : List ℕ) (size number lead : ℕ) (r : Answer) (x : Refusal) → AskedMesh d s size number lead r → r.verdict ≡ Err x → r.desk ≡ d
 mesh_refused d s size number lead r x a n = go (first_of (disorder d ∷ mesh_lines s size)) refl
   where
     go : (v : Verdict) → first_of (disorder d ∷ mesh_lines s size) ≡ v → r.desk ≡ d
-    go Yes e = ask_refused d number (work_of (triangles_of s)) lead r (a.asked e) x n
-    go (No y) e = ap (λ k. k.desk) (a.stopped y e)
+    go (Ok tt) e = ask_refused d number (work_of (triangles_of s)) lead r (a.asked e) x n
+    go (Err y) e = ap (λ k. k.desk) (a.stopped y e)
 
-step_refused : (d : Desk) (x : Refusal) → (step_of d).verdict ≡ No x → step_of d ≡ record { desk = d; verdict = No x; who = Idle; owes = ticks 0 }
+step_refused : (d : Desk) (x : Refusal) → (step_of d).verdict ≡ Err x → step_of d ≡ record { desk = d; verdict = Err x; who = Idle; owes = ticks 0 }
 unfolding step_of
 step_refused d x n =
     λ i. record {
@@ -166,5 +169,8 @@ refused_hands_back =
       step = step_refused;
       end = λ d k x n. refused _ x _ d n;
       rest = λ d p x n. refused _ x _ d n;
-      list = λ d buffer x n. (refused _ x _ buffer n, refused _ x _ 0 n);
+      list = λ d buffer x n.
+          let count = length (live d.ledger.table) in
+          let says = sym (told_verdict (first_of (list_lines d (length buffer))) count) ∙ n in
+          (refused _ x _ buffer says, ap (λ v. result_unwrap_or (yes_with v count) 0) says);
     }

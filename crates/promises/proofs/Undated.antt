@@ -17,8 +17,8 @@ use Rattle.shares.specs.Shares as shares
 use Rattle.shares.proofs.Shares.{share_is}
 use Rattle.answers.specs.declared.Refusal.{Refusal}
 use Rattle.answers.specs.declared.Refusal.TheVariants.{DoesNotFit}
-use Rattle.answers.specs.declared.Verdict.{Verdict}
-use Rattle.answers.specs.declared.Verdict.TheVariants.{Yes, No}
+use Rattle.answers.specs.Verdicts.{Verdict}
+use Rattle.std.specs.Prelude.{Ok, Err}
 use Rattle.answers.specs.Answers.{first_of}
 use Rattle.answers.proofs.Answers.{yes_is_not_no, no_line, from_later}
 use Rattle.edf.specs.Book.{plans}
@@ -68,15 +68,15 @@ module _ (p q : ℕ) (x : Did Call Desk) (d : Desk) (g : Good d) (same : d.share
   unmoved e = record { move = stays; read = reordered_is _ _ (sym (ap book e)); rule = tt; keeps = ap lastly e }
 
   -- it is refused, or taken
-  by_verdict : (r : Answer) → x.came.state ≡ r.desk → ((z : Refusal) → r.verdict ≡ No z → r.desk ≡ d) → (r.verdict ≡ Yes → FairCall) → FairCall
+  by_verdict : (r : Answer) → x.came.state ≡ r.desk → ((z : Refusal) → r.verdict ≡ Err z → r.desk ≡ d) → (r.verdict ≡ Ok tt → FairCall) → FairCall
   by_verdict r e back said = go r.verdict refl
     where
       go : (v : Verdict) → r.verdict ≡ v → FairCall
-      go Yes y = said y
-      go (No z) n = unmoved (e ∙ back z n)
+      go (Ok tt) y = said y
+      go (Err z) n = unmoved (e ∙ back z n)
 
   -- it takes a job by the rule
-  undated_fair : (number work : ℕ) (r : Answer) → AskedUndated d number work r → x.came.state ≡ r.desk → r.verdict ≡ Yes → FairCall
+  undated_fair : (number work : ℕ) (r : Answer) → AskedUndated d number work r → x.came.state ≡ r.desk → r.verdict ≡ Ok tt → FairCall
   unfolding moved
   undated_fair number work r a e y =
       let j = requested d number work (undated_lead d work) in
@@ -93,14 +93,14 @@ module _ (p q : ℕ) (x : Did Call Desk) (d : Desk) (g : Good d) (same : d.share
     step_fair e = go (first_of (step_lines d)) refl
       where
         go : (v : Verdict) → first_of (step_lines d) ≡ v → FairCall
-        go Yes y = record { move = goes 1; read = reordered_is _ _ (sym (ap (λ c. book c.state) e ∙ step_book d g y)); rule = tt; keeps = n }
-        go (No z) m = unmoved (ap (λ c. c.state) e ∙ ap (λ r. r.desk) (refused_hands_back.step d z m))
+        go (Ok tt) y = record { move = goes 1; read = reordered_is _ _ (sym (ap (λ c. book c.state) e ∙ step_book d g y)); rule = tt; keeps = n }
+        go (Err z) m = unmoved (ap (λ c. c.state) e ∙ ap (λ r. r.desk) (refused_hands_back.step d z m))
 
-    end_fair : (k : ℕ) → x.came.state ≡ (end_of d k).desk → (end_of d k).verdict ≡ Yes → FairCall
+    end_fair : (k : ℕ) → x.came.state ≡ (end_of d k).desk → (end_of d k).verdict ≡ Ok tt → FairCall
     unfolding end_of moved
     end_fair k e y = record { move = ends k; read = reordered_is _ _ (sym (ap book e ∙ end_book d g k y)); rule = tt; keeps = n }
 
-    rest_fair : (k : ℕ) → x.came.state ≡ (rest_of d k).desk → (rest_of d k).verdict ≡ Yes → FairCall
+    rest_fair : (k : ℕ) → x.came.state ≡ (rest_of d k).desk → (rest_of d k).verdict ≡ Ok tt → FairCall
     unfolding rest_of moved
     rest_fair k e y = record { move = rests k; read = reordered_is _ _ (sym (ap book e ∙ rest_book d g k y)); rule = tt; keeps = n }
 
@@ -149,7 +149,7 @@ rounds c R k [] = refl
 rounds c R k (f ∷ fs) = ap (λ n. charged c f.plan * (R / f.plan.period.0) + n) (rounds c R (suc k) fs)
 
 -- AN OPENING that is not refused leaves the share free
-module _ (o : Opening) (p q : ℕ) (y : (answer_to o).verdict ≡ Yes) (due : DueAtTheEnd o) (most : SharesAtMostAll o p q) where
+module _ (o : Opening) (p q : ℕ) (y : (answer_to o).verdict ≡ Ok tt) (due : DueAtTheEnd o) (most : SharesAtMostAll o p q) where
   abbrev c : Length
   c = ticks o.charge
 
@@ -174,13 +174,13 @@ module _ (o : Opening) (p q : ℕ) (y : (answer_to o).verdict ≡ Yes) (due : Du
       (subst (ShareFree p q 0) (sym (opening_book o y)) (opening_share_free p q o.start (book_feeds c 1 lent) (passing_opens c lent h).each leaves))
 
 -- no line before 6 gives 6
-none_of_these : (d : Desk) (number : ℕ) → first_of (undated_lines d number) ≡ No DoesNotFit → ⊥
+none_of_these : (d : Desk) (number : ℕ) → first_of (undated_lines d number) ≡ Err DoesNotFit → ⊥
 none_of_these d number e =
     let order = from_later _ _ DoesNotFit e (λ q. omega (arith, q)) in
     let zero = from_later _ _ DoesNotFit order (λ q. omega (arith, q)) in
     yes_is_not_no DoesNotFit (sym no_line ∙ from_later _ _ DoesNotFit zero (λ q. omega (arith, q)))
 
-nor_of_these : (d : Desk) (number work lead : ℕ) → first_of (ask_lines d number (ticks work) (ticks lead)) ≡ No DoesNotFit → ⊥
+nor_of_these : (d : Desk) (number work lead : ℕ) → first_of (ask_lines d number (ticks work) (ticks lead)) ≡ Err DoesNotFit → ⊥
 nor_of_these d number work lead e =
     let order = from_later _ _ DoesNotFit e (λ q. omega (arith, q)) in
     let zero = from_later _ _ DoesNotFit order (λ q. omega (arith, q)) in
@@ -195,9 +195,9 @@ module _ (d : Desk) (number work : ℕ) (r : Answer) (a : AskedUndated d number 
   lead = undated_lead d work
 
   abbrev Passed : Type 0
-  Passed = (first_of (undated_lines d number) ≡ Yes) × (first_of (ask_lines d number (ticks work) (ticks lead)) ≡ Yes)
+  Passed = (first_of (undated_lines d number) ≡ Ok tt) × (first_of (ask_lines d number (ticks work) (ticks lead)) ≡ Ok tt)
 
-  taken : (b : Answer) → Fits (with_job d (requested d number work lead)) → Judged d (requested d number work lead) b → b.verdict ≡ Yes
+  taken : (b : Answer) → Fits (with_job d (requested d number work lead)) → Judged d (requested d number work lead) b → b.verdict ≡ Ok tt
   unfolding Judged
   taken b f (inl k) = ap (λ t. t.verdict) k.1
   taken b f (inr k) = absurd (k.0 f)
@@ -205,18 +205,18 @@ module _ (d : Desk) (number work : ℕ) (r : Answer) (a : AskedUndated d number 
   not_six : (Passed → Fits (with_job d (requested d number work lead))) → NotSix d number work r
   not_six fits = record { never = λ n. go (first_of (undated_lines d number)) refl n; yes = said }
     where
-      said : first_of (undated_lines d number) ≡ Yes → first_of (ask_lines d number (ticks work) (ticks lead)) ≡ Yes → r.verdict ≡ Yes
+      said : first_of (undated_lines d number) ≡ Ok tt → first_of (ask_lines d number (ticks work) (ticks lead)) ≡ Ok tt → r.verdict ≡ Ok tt
       said u e = let (b, k, same) = a.asked u in ap (λ t. t.verdict) same ∙ taken b (fits (u, e)) (k.judged e)
 
-      inner : first_of (undated_lines d number) ≡ Yes → (v : Verdict) → first_of (ask_lines d number (ticks work) (ticks lead)) ≡ v → r.verdict ≡ No DoesNotFit → ⊥
-      inner u Yes e n = yes_is_not_no DoesNotFit (sym (said u e) ∙ n)
-      inner u (No z) e n =
+      inner : first_of (undated_lines d number) ≡ Ok tt → (v : Verdict) → first_of (ask_lines d number (ticks work) (ticks lead)) ≡ v → r.verdict ≡ Err DoesNotFit → ⊥
+      inner u (Ok tt) e n = yes_is_not_no DoesNotFit (sym (said u e) ∙ n)
+      inner u (Err z) e n =
           let (b, k, same) = a.asked u in
           nor_of_these d number work lead (e ∙ sym (ap (λ t. t.verdict) (k.stopped z e)) ∙ sym (ap (λ t. t.verdict) same) ∙ n)
 
-      go : (v : Verdict) → first_of (undated_lines d number) ≡ v → r.verdict ≡ No DoesNotFit → ⊥
-      go Yes u n = inner u (first_of (ask_lines d number (ticks work) (ticks lead))) refl n
-      go (No z) u n = none_of_these d number (u ∙ sym (ap (λ t. t.verdict) (a.stopped z u)) ∙ n)
+      go : (v : Verdict) → first_of (undated_lines d number) ≡ v → r.verdict ≡ Err DoesNotFit → ⊥
+      go (Ok tt) u n = inner u (first_of (ask_lines d number (ticks work) (ticks lead))) refl n
+      go (Err z) u n = none_of_these d number (u ∙ sym (ap (λ t. t.verdict) (a.stopped z u)) ∙ n)
 
 -- NEVER 6
 pub no_undated_ask_gets_six : NoUndatedAskGetsSix
@@ -230,7 +230,7 @@ no_undated_ask_gets_six o p q carried due most cs m n number work r a = go (answ
     kept = calls_keep_share cs (opened o) m
 
     go : (v : Verdict) → (answer_to o).verdict ≡ v → NotSix (after cs (opened o)) number work r
-    go Yes y =
+    go (Ok tt) y =
         let share_of_lem : (opened o).share ≡ shares.share p q = ap (λ e. e.share) (opening_yes o y) ∙ ap given carried in
         let g = run_is_good desks cs (opened o) (opening_good o) m in
         not_six (after cs (opened o)) number work r a (λ pass.
@@ -245,7 +245,7 @@ no_undated_ask_gets_six o p q carried due most cs m n number work r a = go (answ
         (admissible_askable (after cs (opened o)) j (admissible (after cs (opened o)) number work (undated_lead (after cs (opened o)) work) g.sized pass.1))
         (undated_due (after cs (opened o)) work ∙ (λ i. deadline_at (same i).p (same i).q (lastly (after cs (opened o))) (after cs (opened o)).ledger.clock.0 (work + (after cs (opened o)).ledger.charge.0)))
         free)
-    go (No z) e =
+    go (Err z) e =
         let none : (after cs (opened o)).share ≡ shares.no_share = kept ∙ ap (λ k. k.share) (opening_no o z e) in
         not_six (after cs (opened o)) number work r a (λ pass.
         let sound = share_is (after cs (opened o)).share (undated_shared (after cs (opened o)) number work pass.0) in

@@ -1,4 +1,4 @@
--- No answer sees the order of the jobs: a desk whose book is another but for that answers as the other.
+-- Err answer sees the order of the jobs: a desk whose book is another but for that answers as the other.
 use mathlib.Core.Path.{◌≡◌, refl, sym, ap, subst, ◌∙◌}
 use mathlib.Core.Logic.{inl, inr}
 use mathlib.Core.Bool.{not, cond}
@@ -27,8 +27,8 @@ use Rattle.jobs.proofs.Sorted.{sorted_once, sorted_sorted, sorted_same}
 use Rattle.listing.specs.Words.{words}
 use Rattle.answers.specs.declared.Who.TheVariants.{Idle}
 use Rattle.answers.specs.declared.Refusal.TheVariants.{NumberLive, Full, PastLast, DoesNotFit, NothingThere, ShortBuffer}
-use Rattle.answers.specs.declared.Verdict.TheVariants.{Yes, No}
-use Rattle.answers.specs.Answers.{line, first_of, on_yes}
+use Rattle.std.specs.Prelude.{Ok, Err}
+use Rattle.answers.specs.Answers.{line, first_of, on_yes, yes_with}
 use Rattle.answers.proofs.Answers.{goes_on_lem}
 use Rattle.edf.specs.Book.{Book}
 use Rattle.edf.specs.Order.{InOrder as BookInOrder}
@@ -107,8 +107,8 @@ module _ (c : ℕ) (b : Book) (d : Desk) (g : Good d) (r : Reordered b (book d))
       ∙ (λ i. first_of (request_lines (instant (sym r.clock i)) number (ticks work) (ticks lead) ++ (line (not (live_is i)) NumberLive ∷ line (leb most_jobs (many i)) Full ∷ [])))
 
   judged_same : (number work lead : ℕ) (a : Answer) → Judged d (requested d number work lead) a
-      → (Fits (taking (job_asked c b number work lead) b) → a.verdict ≡ Yes)
-      × ((Fits (taking (job_asked c b number work lead) b) → ⊥) → a.verdict ≡ No DoesNotFit)
+      → (Fits (taking (job_asked c b number work lead) b) → a.verdict ≡ Ok tt)
+      × ((Fits (taking (job_asked c b number work lead) b) → ⊥) → a.verdict ≡ Err DoesNotFit)
   unfolding Judged
   judged_same number work lead a (inl y) = (
     λ f. ap (λ x. x.verdict) y.1,
@@ -219,7 +219,7 @@ module _ (c : ℕ) (b : Book) (d : Desk) (g : Good d) (r : Reordered b (book d))
         owes = λ i. on_yes (verdict_same i) (ticks (ran_same i).owes) (ticks 0);
         end = end_same;
         rest = rest_same;
-        counted = λ size i. record { verdict = list_same size i; count = on_yes (list_same size i) ((live_count d.ledger.table order.tidy_table ∙ count_same) i) 0 };
+        counted = λ size i. yes_with (list_same size i) ((live_count d.ledger.table order.tidy_table ∙ count_same) i);
         listed = λ buffer i. on_yes (list_same (length buffer) i) (words (table_same i) ++ drop (numbers_a_job * count_same i) buffer) buffer;
         label = λ i. on_yes (verdict_same i) (who_is (runner_same i).who) Idle;
         instants = λ number work lead D. (

@@ -13,9 +13,9 @@ use Rattle.listing.specs.Words.{words}
 use Rattle.answers.specs.declared.Who.TheVariants.{Idle}
 use Rattle.answers.specs.declared.Refusal.{Refusal}
 use Rattle.answers.specs.declared.Refusal.TheVariants.{PastLast, DoesNotFit, NothingThere, ShortBuffer}
-use Rattle.answers.specs.declared.Verdict.{Verdict}
-use Rattle.answers.specs.declared.Verdict.TheVariants.{Yes, No}
-use Rattle.answers.specs.Answers.{Line, line, first_of, on_yes}
+use Rattle.answers.specs.Verdicts.{Verdict}
+use Rattle.std.specs.Prelude.{Ok, Err}
+use Rattle.answers.specs.Answers.{Line, line, first_of, on_yes, yes_with}
 use Rattle.edf.specs.Book.{Feed, Job, Book}
 use Rattle.edf.specs.Fits.{Fits}
 use Rattle.edf.specs.Step as edf
@@ -90,19 +90,19 @@ asked_lines b number work lead =
 
 -- what an ask answers: the first line that holds, then line 6 by fits itself
 pub record Answers (charge : ℕ) (b : Book) (number work lead : ℕ) (v : Verdict) : Type 0 where
-  pub stopped : (x : Refusal) → first_of (asked_lines b number work lead) ≡ No x → v ≡ No x
-  pub fits : first_of (asked_lines b number work lead) ≡ Yes → Fits (taking (job_asked charge b number work lead) b) → v ≡ Yes
-  pub not : first_of (asked_lines b number work lead) ≡ Yes → (Fits (taking (job_asked charge b number work lead) b) → ⊥) → v ≡ No DoesNotFit
+  pub stopped : (x : Refusal) → first_of (asked_lines b number work lead) ≡ Err x → v ≡ Err x
+  pub fits : first_of (asked_lines b number work lead) ≡ Ok tt → Fits (taking (job_asked charge b number work lead) b) → v ≡ Ok tt
+  pub not : first_of (asked_lines b number work lead) ≡ Ok tt → (Fits (taking (job_asked charge b number work lead) b) → ⊥) → v ≡ Err DoesNotFit
 
 -- an ask with a mesh: the first of its own lines that holds, then what an ask for its band's work answers
 pub record MeshAnswers (charge : ℕ) (b : Book) (s : List ℕ) (size number lead : ℕ) (v : Verdict) : Type 0 where
-  pub stopped : (x : Refusal) → first_of (mesh_lines s size) ≡ No x → v ≡ No x
-  pub asked : first_of (mesh_lines s size) ≡ Yes → Answers charge b number (work_of (triangles_of s)) lead v
+  pub stopped : (x : Refusal) → first_of (mesh_lines s size) ≡ Err x → v ≡ Err x
+  pub asked : first_of (mesh_lines s size) ≡ Ok tt → Answers charge b number (work_of (triangles_of s)) lead v
 
 -- an ask with no date: line 1 or 19, then what an ask with the lead of the rule answers
 pub record UndatedAnswers (charge : ℕ) (s : Share) (k : Arrived) (number work : ℕ) (v : Verdict) : Type 0 where
-  pub stopped : (x : Refusal) → first_of (number_line number ∷ share_line s ∷ []) ≡ No x → v ≡ No x
-  pub asked : first_of (number_line number ∷ share_line s ∷ []) ≡ Yes → Answers charge k.book number work (lead_of charge s k work) v
+  pub stopped : (x : Refusal) → first_of (number_line number ∷ share_line s ∷ []) ≡ Err x → v ≡ Err x
+  pub asked : first_of (number_line number ∷ share_line s ∷ []) ≡ Ok tt → Answers charge k.book number work (lead_of charge s k work) v
 
 -- what the current piece of the feed at a position owes; nothing where there is none
 abbrev pub owes_in : ℕ → List Feed → ℕ
@@ -141,7 +141,7 @@ pub record AnswersAs (charge : ℕ) (s : Share) (k : Arrived) (d : Desk) : Type 
   pub end : (n : ℕ) → (end_of d n).verdict ≡ ended_by k.book n
   pub rest : (p : ℕ) → (rest_of d p).verdict ≡ rested_by k.book p
   -- a list
-  pub counted : (size : ℕ) → counted_of d size ≡ record { verdict = listed_by k.book size; count = on_yes (listed_by k.book size) (length k.book.jobs) 0 }
+  pub counted : (size : ℕ) → counted_of d size ≡ yes_with (listed_by k.book size) (length k.book.jobs)
   pub listed : (buffer : List ℕ)
       → listed_of d buffer ≡ on_yes (listed_by k.book (length buffer)) (listing k.book ++ drop (numbers_a_job * length k.book.jobs) buffer) buffer
   -- the label is that of whom the next step would name

@@ -9,7 +9,7 @@ use Rattle.mesh.specs.Bands.{work_of}
 use Rattle.mesh.specs.Meshes.{triangles_of, mesh_lines}
 use Rattle.jobs.specs.declared.Job.{Job}
 use Rattle.answers.specs.declared.Refusal.TheVariants.{DoesNotFit, TooMuchLoad}
-use Rattle.answers.specs.declared.Verdict.TheVariants.{Yes, No}
+use Rattle.std.specs.Prelude.{Ok, Err}
 use Rattle.answers.specs.Answers.{first_of}
 use Rattle.edf.specs.Book.{Feed, Book}
 use Rattle.edf.specs.Reordered.{Reordered}
@@ -33,10 +33,10 @@ use Rattle.promises.specs.Runs.{Opening, answer_to}
 -- the answer is yes exactly if the job fits, and 6 exactly if it does not; with a yes the desk has the job beside all it had, in
 -- whatever order, and it is this one
 pub record TakenIfItFits (d : Desk) (j : Job) (taken : Desk) (r : Answer) : Type 0 where
-  pub yes : (r.verdict ≡ Yes) ↔ Fits (with_job d j)
-  pub no : (r.verdict ≡ No DoesNotFit) ↔ (Fits (with_job d j) → ⊥)
-  pub has : r.verdict ≡ Yes → Reordered (with_job d j) (book r.desk)
-  pub desk : r.verdict ≡ Yes → r.desk ≡ taken
+  pub yes : (r.verdict ≡ Ok tt) ↔ Fits (with_job d j)
+  pub no : (r.verdict ≡ Err DoesNotFit) ↔ (Fits (with_job d j) → ⊥)
+  pub has : r.verdict ≡ Ok tt → Reordered (with_job d j) (book r.desk)
+  pub desk : r.verdict ≡ Ok tt → r.desk ≡ taken
 
 -- the desk with the job, nothing else of it changed
 abbrev pub desk_with : Desk → Job → Desk
@@ -46,23 +46,23 @@ desk_with d j = rewritten d (with_job d j)
 unfoldable pub TakenExactlyIfItFits : Type 0
 TakenExactlyIfItFits =
     (d : Desk) (number work lead : ℕ) (r : Answer) → Asked d number work lead r
-    → first_of (ask_lines d number (ticks work) (ticks lead)) ≡ Yes
+    → first_of (ask_lines d number (ticks work) (ticks lead)) ≡ Ok tt
     → TakenIfItFits d (requested d number work lead) (desk_with d (requested d number work lead)) r
 
 -- the same of an ask with a mesh, with the work of its band
 unfoldable pub AMeshIsTakenExactlyIfItFits : Type 0
 AMeshIsTakenExactlyIfItFits =
     (d : Desk) (s : List ℕ) (size number lead : ℕ) (r : Answer) → AskedMesh d s size number lead r
-    → first_of (disorder d ∷ mesh_lines s size) ≡ Yes
-    → first_of (ask_lines d number (ticks (work_of (triangles_of s))) (ticks lead)) ≡ Yes
+    → first_of (disorder d ∷ mesh_lines s size) ≡ Ok tt
+    → first_of (ask_lines d number (ticks (work_of (triangles_of s))) (ticks lead)) ≡ Ok tt
     → TakenIfItFits d (requested d number (work_of (triangles_of s)) lead) (desk_with d (requested d number (work_of (triangles_of s)) lead)) r
 
 -- the same of an ask with no date, with the lead of the rule; the desk remembers its deadline beside it
 unfoldable pub AnUndatedIsTakenExactlyIfItFits : Type 0
 AnUndatedIsTakenExactlyIfItFits =
     (d : Desk) (number work : ℕ) (r : Answer) → AskedUndated d number work r
-    → first_of (undated_lines d number) ≡ Yes
-    → first_of (ask_lines d number (ticks work) (ticks (undated_lead d work))) ≡ Yes
+    → first_of (undated_lines d number) ≡ Ok tt
+    → first_of (ask_lines d number (ticks work) (ticks (undated_lead d work))) ≡ Ok tt
     → TakenIfItFits d (requested d number work (undated_lead d work))
     (since (instant (undated_deadline d work)) (desk_with d (requested d number work (undated_lead d work))))
     r
@@ -71,15 +71,15 @@ AnUndatedIsTakenExactlyIfItFits =
 -- time until then
 unfoldable pub FitsIsRoom : Type 0
 FitsIsRoom =
-    (d : Desk) (number work lead : ℕ) → Sized d.ledger → first_of (ask_lines d number (ticks work) (ticks lead)) ≡ Yes
+    (d : Desk) (number work lead : ℕ) → Sized d.ledger → first_of (ask_lines d number (ticks work) (ticks lead)) ≡ Ok tt
     → Fits (with_job d (requested d number work lead)) ↔ Room (with_job d (requested d number work lead))
 
 -- THE OPENING GIVES 10 EXACTLY IF, in some stretch of ticks, however long, the feeds released together want more than it has, the
 -- charge of each piece counted: a 10 has such a stretch, and a yes has none
 pub record TenIfSomeStretchWantsMore : Type 0 where
-  pub ten : (o : Opening) → (answer_to o).verdict ≡ No TooMuchLoad
+  pub ten : (o : Opening) → (answer_to o).verdict ≡ Err TooMuchLoad
       → (L : ℕ) × (L < demand (ticks o.charge) L (feeds_in o.feeds))
-  pub yes : (o : Opening) → (answer_to o).verdict ≡ Yes
+  pub yes : (o : Opening) → (answer_to o).verdict ≡ Ok tt
       → (L : ℕ) → demand (ticks o.charge) L (feeds_in o.feeds) ≤ L
 
 -- the contract of an ask leaves one outcome, and so do that of an ask with a mesh and that of one with no date; the other calls' contracts are equations
@@ -109,7 +109,7 @@ pub record FeedTurned (x : ℕ) (after before : Feed) : Type 0 where
 
 -- the step rule, of any desk that lines 13 and 3 let pass, overbooked or not
 pub record StepRule (d : Desk) : Type 0 where
-  pub yes : (step_of d).verdict ≡ Yes
+  pub yes : (step_of d).verdict ≡ Ok tt
   pub first : NamesTheFirst (book d) (runner (book d))
   -- in the order that is listed: the earlier deadline, a job before a feed, the lower number, the lower position
   pub ties : Each (λ q. 1 ≤ q.owes → GoesBefore (runner (book d)) q) (at_hand (book d))
@@ -125,7 +125,7 @@ pub record StepRule (d : Desk) : Type 0 where
   pub after : book (step_of d).desk ≡ turn (served d)
 
 unfoldable pub EveryStepByTheRule : Type 0
-EveryStepByTheRule = (d : Desk) → Sized d.ledger → first_of (step_lines d) ≡ Yes → StepRule d
+EveryStepByTheRule = (d : Desk) → Sized d.ledger → first_of (step_lines d) ≡ Ok tt → StepRule d
 
 -- the runner whose label is told is whom the next step names; nobody where there is no next step
 unfoldable pub TheLabelIsTheRunners : Type 0

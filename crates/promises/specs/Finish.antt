@@ -7,7 +7,7 @@ use Rattle.jobs.specs.declared.Job as jobs
 use Rattle.jobs.specs.Jobs.{live}
 use Rattle.answers.specs.declared.Who.{Who}
 use Rattle.answers.specs.declared.Who.TheVariants.{Job}
-use Rattle.answers.specs.declared.Verdict.TheVariants.{Yes}
+use Rattle.std.specs.Prelude.{Ok}
 use Rattle.edf.specs.Step.{runner}
 use Rattle.edf.specs.Finish.{Wanted, CurrentAt}
 use Rattle.ledger.specs.Books.{who_of}
@@ -28,7 +28,7 @@ ToDo w D d = Wanted (who_of w) D (book d)
 -- the step after k steps gives w's work that is due at D its last tick: it is taken, and its answer names w with nothing
 -- still owed
 pub record Finishes (w : Who) (D k : ℕ) (d : Desk) : Type 0 where
-  pub taken : (step_of (stepped k d)).verdict ≡ Yes
+  pub taken : (step_of (stepped k d)).verdict ≡ Ok tt
   pub named : (step_of (stepped k d)).who ≡ w
   pub last : (step_of (stepped k d)).owes ≡ ticks 0
   -- the work that got the tick owed something before it, and was due at D: a job has one deadline, each piece its own

@@ -8,7 +8,7 @@ use Rattle.mesh.specs.Bands.{work_of}
 use Rattle.mesh.specs.Meshes.{triangles_of}
 use Rattle.ticks.specs.Ticks.{ticks}
 use Rattle.feeds.specs.Lines.{feeds_in}
-use Rattle.answers.specs.declared.Verdict.TheVariants.{Yes}
+use Rattle.std.specs.Prelude.{Ok}
 use Rattle.edf.specs.Book.{Feed, job, feed}
 use Rattle.edf.specs.Releases.{since}
 use Rattle.edf.specs.Runs.{Did, after, named}
@@ -25,7 +25,7 @@ use Rattle.promises.specs.Runs.{Call, Calls, Made, Ends, Rests, Opening, answer_
 unfoldable pub TheChargeStays : Type 0
 TheChargeStays =
     (o : Opening) (cs : Calls) → Made cs (opened o)
-    → ((after cs (opened o)).ledger.charge.0 ≡ charge_of o) × ((answer_to o).verdict ≡ Yes → charge_of o ≡ o.charge)
+    → ((after cs (opened o)).ledger.charge.0 ≡ charge_of o) × ((answer_to o).verdict ≡ Ok tt → charge_of o ≡ o.charge)
 
 -- every state handed back from an opening onward is in order, and all that is promised can be done
 unfoldable pub EveryStateIsInOrder : Type 0
@@ -45,21 +45,21 @@ Over n due work cs d = edf.HasLeft book n due work cs d ⊎ edf.WasEnded book En
 unfoldable pub EveryYesIsKept : Type 0
 EveryYesIsKept =
     (o : Opening) (before : Calls) (number work lead : ℕ) (r : Answer) (later : Calls)
-    → Made (before ++ (asked number work lead r ∷ later)) (opened o) → r.verdict ≡ Yes
+    → Made (before ++ (asked number work lead r ∷ later)) (opened o) → r.verdict ≡ Ok tt
     → JobKept number ((after before (opened o)).ledger.clock.0 + lead) (work + charge_of o) later r.desk
 
 -- and of an ask with a mesh
 unfoldable pub EveryMeshYesIsKept : Type 0
 EveryMeshYesIsKept =
     (o : Opening) (before : Calls) (s : List ℕ) (size number lead : ℕ) (r : Answer) (later : Calls)
-    → Made (before ++ (asked_mesh s size number lead r ∷ later)) (opened o) → r.verdict ≡ Yes
+    → Made (before ++ (asked_mesh s size number lead r ∷ later)) (opened o) → r.verdict ≡ Ok tt
     → JobKept number ((after before (opened o)).ledger.clock.0 + lead) (work_of (triangles_of s) + charge_of o) later r.desk
 
 -- and of an ask with no date, by the deadline that the rule gives it
 unfoldable pub EveryUndatedYesIsKept : Type 0
 EveryUndatedYesIsKept =
     (o : Opening) (before : Calls) (number work : ℕ) (r : Answer) (later : Calls)
-    → Made (before ++ (asked_undated number work r ∷ later)) (opened o) → r.verdict ≡ Yes
+    → Made (before ++ (asked_undated number work r ∷ later)) (opened o) → r.verdict ≡ Ok tt
     → JobKept number (undated_deadline (after before (opened o)) work) (work + charge_of o) later r.desk
 
 -- once the clock has reached its deadline it is over: the job has left with all its work in time, or was ended
@@ -80,7 +80,7 @@ PieceOver p due work cs d = edf.WasServed book p due work cs d ⊎ edf.WasRested
 -- EVERY LAYER PIECE IS KEPT, from the call that brought the clock to its release
 unfoldable pub EveryPieceIsKept : Type 0
 EveryPieceIsKept =
-    (o : Opening) → (answer_to o).verdict ≡ Yes → (f : Feed) → Lent o f
+    (o : Opening) → (answer_to o).verdict ≡ Ok tt → (f : Feed) → Lent o f
     → (before : Calls) (x : Did Call Desk) (later : Calls) → Made (before ++ (x ∷ later)) (opened o)
     → (after before (opened o)).ledger.clock.0 < x.came.state.ledger.clock.0
     → since f.plan x.came.state.ledger.clock.0 ≡ 0
@@ -89,7 +89,7 @@ EveryPieceIsKept =
 -- and those that come with the opening
 unfoldable pub EveryOpenedPieceIsKept : Type 0
 EveryOpenedPieceIsKept =
-    (o : Opening) → (answer_to o).verdict ≡ Yes → (f : Feed) → Lent o f → since f.plan o.start ≡ 0
+    (o : Opening) → (answer_to o).verdict ≡ Ok tt → (f : Feed) → Lent o f → since f.plan o.start ≡ 0
     → (later : Calls) → Made later (opened o)
     → PieceKept f.position (o.start + f.plan.lead) f.plan.work later (opened o)
 
@@ -103,7 +103,7 @@ ServedByItsDeadline =
 unfoldable pub EveryReportIsRight : Type 0
 EveryReportIsRight =
     (o : Opening) (before : Calls) (number work lead : ℕ) (r : Answer) (since_then : Calls) (x : Did Call Desk) (later : Calls)
-    → Made (before ++ (asked number work lead r ∷ (since_then ++ (x ∷ later)))) (opened o) → r.verdict ≡ Yes
+    → Made (before ++ (asked number work lead r ∷ (since_then ++ (x ∷ later)))) (opened o) → r.verdict ≡ Ok tt
     → x.came.who ≡ job number → 1 ≤ x.came.ticks
     → (x.came.owes + named (job number) (since_then ++ (x ∷ [])) ≡ work + charge_of o)
     ⊎ Over number ((after before (opened o)).ledger.clock.0 + lead) (work + charge_of o) since_then r.desk
@@ -112,7 +112,7 @@ EveryReportIsRight =
 unfoldable pub EveryMeshReportIsRight : Type 0
 EveryMeshReportIsRight =
     (o : Opening) (before : Calls) (s : List ℕ) (size number lead : ℕ) (r : Answer) (since_then : Calls) (x : Did Call Desk) (later : Calls)
-    → Made (before ++ (asked_mesh s size number lead r ∷ (since_then ++ (x ∷ later)))) (opened o) → r.verdict ≡ Yes
+    → Made (before ++ (asked_mesh s size number lead r ∷ (since_then ++ (x ∷ later)))) (opened o) → r.verdict ≡ Ok tt
     → x.came.who ≡ job number → 1 ≤ x.came.ticks
     → (x.came.owes + named (job number) (since_then ++ (x ∷ [])) ≡ work_of (triangles_of s) + charge_of o)
     ⊎ Over number ((after before (opened o)).ledger.clock.0 + lead) (work_of (triangles_of s) + charge_of o) since_then r.desk
@@ -121,7 +121,7 @@ EveryMeshReportIsRight =
 unfoldable pub EveryUndatedReportIsRight : Type 0
 EveryUndatedReportIsRight =
     (o : Opening) (before : Calls) (number work : ℕ) (r : Answer) (since_then : Calls) (x : Did Call Desk) (later : Calls)
-    → Made (before ++ (asked_undated number work r ∷ (since_then ++ (x ∷ later)))) (opened o) → r.verdict ≡ Yes
+    → Made (before ++ (asked_undated number work r ∷ (since_then ++ (x ∷ later)))) (opened o) → r.verdict ≡ Ok tt
     → x.came.who ≡ job number → 1 ≤ x.came.ticks
     → (x.came.owes + named (job number) (since_then ++ (x ∷ [])) ≡ work + charge_of o)
     ⊎ Over number (undated_deadline (after before (opened o)) work) (work + charge_of o) since_then r.desk
@@ -129,7 +129,7 @@ EveryUndatedReportIsRight =
 -- and of a layer piece since its release
 unfoldable pub EveryPieceReportIsRight : Type 0
 EveryPieceReportIsRight =
-    (o : Opening) → (answer_to o).verdict ≡ Yes → (f : Feed) → Lent o f
+    (o : Opening) → (answer_to o).verdict ≡ Ok tt → (f : Feed) → Lent o f
     → (before : Calls) (released : Did Call Desk) (since_then : Calls) (x : Did Call Desk) (later : Calls)
     → Made (before ++ (released ∷ (since_then ++ (x ∷ later)))) (opened o)
     → (after before (opened o)).ledger.clock.0 < released.came.state.ledger.clock.0
@@ -141,7 +141,7 @@ EveryPieceReportIsRight =
 -- and of one that came with the opening
 unfoldable pub EveryOpenedPieceReportIsRight : Type 0
 EveryOpenedPieceReportIsRight =
-    (o : Opening) → (answer_to o).verdict ≡ Yes → (f : Feed) → Lent o f → since f.plan o.start ≡ 0
+    (o : Opening) → (answer_to o).verdict ≡ Ok tt → (f : Feed) → Lent o f → since f.plan o.start ≡ 0
     → (since_then : Calls) (x : Did Call Desk) (later : Calls) → Made (since_then ++ (x ∷ later)) (opened o)
     → x.came.who ≡ feed f.position → 1 ≤ x.came.ticks
     → (x.came.owes + named (feed f.position) (since_then ++ (x ∷ [])) ≡ f.plan.work)

@@ -5,7 +5,7 @@ use Rattle.feeds.specs.declared.Feed.{Feed}
 use Rattle.feeds.specs.Feeds.{in_use, plans_of}
 use Rattle.jobs.specs.declared.Job.{Job}
 use Rattle.jobs.specs.Jobs.{lacks, live}
-use Rattle.answers.specs.declared.Verdict.TheVariants.{Yes}
+use Rattle.std.specs.Prelude.{Ok}
 use Rattle.edf.specs.Fits.{Fits}
 use Rattle.edf.specs.Runs.{after}
 use Rattle.desk.specs.declared.Desk.{Desk}
@@ -50,11 +50,11 @@ pub record GrantsToo (c d : Desk) : Type 0 where
   pub fits : (number work lead : ℕ) → 1 ≤ work → 1 ≤ lead → lacks number (live d.ledger.table) ≡ true
       → Fits (with_job d (requested d number work lead)) → Fits (with_job c (requested c number work lead))
   -- a yes to an ask, whatever its numbers are
-  pub ask : (number work lead : ℕ) (q r : Answer) → Asked d number work lead r → r.verdict ≡ Yes
-      → Asked c number work lead q → q.verdict ≡ Yes
+  pub ask : (number work lead : ℕ) (q r : Answer) → Asked d number work lead r → r.verdict ≡ Ok tt
+      → Asked c number work lead q → q.verdict ≡ Ok tt
   -- a yes to an ask with a mesh
-  pub mesh : (s : List ℕ) (size number lead : ℕ) (q r : Answer) → AskedMesh d s size number lead r → r.verdict ≡ Yes
-      → AskedMesh c s size number lead q → q.verdict ≡ Yes
+  pub mesh : (s : List ℕ) (size number lead : ℕ) (q r : Answer) → AskedMesh d s size number lead r → r.verdict ≡ Ok tt
+      → AskedMesh c s size number lead q → q.verdict ≡ Ok tt
 
 -- LESS LOAD NEVER MAKES A YES A NO, of any two desks that calls reach and that have the same feeds
 unfoldable pub TheLighterSaysYes : Type 0

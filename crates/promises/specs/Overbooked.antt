@@ -7,7 +7,7 @@ use Rattle.ticks.specs.Ticks.{ticks}
 use Rattle.mesh.specs.Bands.{work_of}
 use Rattle.mesh.specs.Meshes.{triangles_of, mesh_lines}
 use Rattle.answers.specs.declared.Refusal.TheVariants.{DoesNotFit}
-use Rattle.answers.specs.declared.Verdict.TheVariants.{Yes, No}
+use Rattle.std.specs.Prelude.{Ok, Err}
 use Rattle.answers.specs.Answers.{first_of}
 use Rattle.edf.specs.Book.{Feed, job, same}
 use Rattle.edf.specs.Releases.{since}
@@ -25,26 +25,26 @@ use Rattle.questions.specs.Meshes.{AskedMesh}
 
 -- the answer is 6, and the desk is as it was
 abbrev pub GetsSix : Desk → Answer → Type 0
-GetsSix d r = r ≡ record { desk = d; verdict = No DoesNotFit }
+GetsSix d r = r ≡ record { desk = d; verdict = Err DoesNotFit }
 
 -- what is promised already does not fit: every ask that passes the lines before 6 gets 6
 pub record OverbookedTakesNothing : Type 0 where
   pub ask : (d : Desk) → Sized d.ledger → (Fits (book d) → ⊥)
-      → (number work lead : ℕ) (r : Answer) → first_of (ask_lines d number (ticks work) (ticks lead)) ≡ Yes
+      → (number work lead : ℕ) (r : Answer) → first_of (ask_lines d number (ticks work) (ticks lead)) ≡ Ok tt
       → Asked d number work lead r → GetsSix d r
   pub mesh : (d : Desk) → Sized d.ledger → (Fits (book d) → ⊥)
-      → (s : List ℕ) (size number lead : ℕ) (r : Answer) → first_of (disorder d ∷ mesh_lines s size) ≡ Yes
-      → first_of (ask_lines d number (ticks (work_of (triangles_of s))) (ticks lead)) ≡ Yes
+      → (s : List ℕ) (size number lead : ℕ) (r : Answer) → first_of (disorder d ∷ mesh_lines s size) ≡ Ok tt
+      → first_of (ask_lines d number (ticks (work_of (triangles_of s))) (ticks lead)) ≡ Ok tt
       → AskedMesh d s size number lead r → GetsSix d r
   pub undated : (d : Desk) → Sized d.ledger → (Fits (book d) → ⊥)
-      → (number work : ℕ) (r : Answer) → first_of (undated_lines d number) ≡ Yes
-      → first_of (ask_lines d number (ticks work) (ticks (undated_lead d work))) ≡ Yes
+      → (number work : ℕ) (r : Answer) → first_of (undated_lines d number) ≡ Ok tt
+      → first_of (ask_lines d number (ticks work) (ticks (undated_lead d work))) ≡ Ok tt
       → AskedUndated d number work r → GetsSix d r
 
 -- a live job whose deadline the clock reaches with ticks still owed stays, owing them, and the state is out of order
 unfoldable pub ALateJobStays : Type 0
 ALateJobStays =
-    (d : Desk) → Sized d.ledger → first_of (step_lines d) ≡ Yes
+    (d : Desk) → Sized d.ledger → first_of (step_lines d) ≡ Ok tt
     → (n due owes : ℕ) → Live n due owes (book d) → due ≤ suc d.ledger.clock.0 → same (runner (book d)).who (job n) < owes
     → Live n due (owes - same (runner (book d)).who (job n)) (book (step_of d).desk) × (in_order (step_of d).desk ≡ false)
 
@@ -62,4 +62,4 @@ pub record GivesWay (d : Desk) (f : Feed) : Type 0 where
 
 unfoldable pub ALatePieceGivesWay : Type 0
 ALatePieceGivesWay =
-    (d : Desk) → Sized d.ledger → first_of (step_lines d) ≡ Yes → (f : Feed) → Some (λ g. g ≡ f) (book d).feeds → GivesWay d f
+    (d : Desk) → Sized d.ledger → first_of (step_lines d) ≡ Ok tt → (f : Feed) → Some (λ g. g ≡ f) (book d).feeds → GivesWay d f

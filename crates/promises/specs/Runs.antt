@@ -1,7 +1,7 @@
 -- The calls on a desk, each with its answer, and what comes of it: the state that it hands back, and whom it names.
 use Rattle.std.specs.Prelude.{◌≡◌, List, ℕ}
 use Rattle.lists.specs.Lists.{bit}
-use Rattle.answers.specs.declared.Verdict.TheVariants.{Yes}
+use Rattle.std.specs.Prelude.{Ok}
 use Rattle.answers.specs.Answers.{is_yes}
 use Rattle.edf.specs.Book.{idle}
 use Rattle.shares.specs.declared.Share.{Share}
@@ -56,11 +56,11 @@ Made xs d = Allowed allows xs d
 
 -- an end of the job of this number that was answered yes
 unfoldable pub Ends : ℕ → Did Call Desk → Type 0
-Ends n x = (r : Answer) × (x.call ≡ end n r) × (r.verdict ≡ Yes)
+Ends n x = (r : Answer) × (x.call ≡ end n r) × (r.verdict ≡ Ok tt)
 
 -- a rest of the feed at this position that was answered yes
 unfoldable pub Rests : ℕ → Did Call Desk → Type 0
-Rests p x = (r : Answer) × (x.call ≡ rest p r) × (r.verdict ≡ Yes)
+Rests p x = (r : Answer) × (x.call ≡ rest p r) × (r.verdict ≡ Ok tt)
 
 -- the share that an opening may carry for jobs with no date
 pub data Carried : Type 0 where

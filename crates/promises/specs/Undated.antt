@@ -10,7 +10,7 @@ use Rattle.feeds.specs.Lines.{feeds_in}
 use Rattle.shares.specs.declared.Share.{Share}
 use Rattle.shares.specs.Shares as shares
 use Rattle.answers.specs.declared.Refusal.TheVariants.{DoesNotFit}
-use Rattle.answers.specs.declared.Verdict.TheVariants.{Yes, No}
+use Rattle.std.specs.Prelude.{Ok, Err}
 use Rattle.answers.specs.Answers.{first_of}
 use Rattle.edf.specs.Runs.{Did, after}
 use Rattle.desk.specs.declared.Desk.{Desk}
@@ -47,21 +47,21 @@ given (share p q) = shares.share p q
 unfoldable pub TheShareStays : Type 0
 TheShareStays =
     (o : Opening) (cs : Calls) → Made cs (opened o)
-    → ((after cs (opened o)).share ≡ share_of o) × ((answer_to o).verdict ≡ Yes → share_of o ≡ given o.carried)
+    → ((after cs (opened o)).share ≡ share_of o) × ((answer_to o).verdict ≡ Ok tt → share_of o ≡ given o.carried)
 
 -- a job that was taken with no date, and one that was taken with a lead of its own
 abbrev pub TakesUndated : Call → Type 0
 TakesUndated (ask number work lead r) = ⊥
 TakesUndated (ask_mesh s size number lead r) = ⊥
-TakesUndated (ask_undated number work r) = r.verdict ≡ Yes
+TakesUndated (ask_undated number work r) = r.verdict ≡ Ok tt
 TakesUndated (step r) = ⊥
 TakesUndated (end n r) = ⊥
 TakesUndated (rest p r) = ⊥
 TakesUndated look = ⊥
 
 abbrev pub TakesDated : Call → Type 0
-TakesDated (ask number work lead r) = r.verdict ≡ Yes
-TakesDated (ask_mesh s size number lead r) = r.verdict ≡ Yes
+TakesDated (ask number work lead r) = r.verdict ≡ Ok tt
+TakesDated (ask_mesh s size number lead r) = r.verdict ≡ Ok tt
 TakesDated (ask_undated number work r) = ⊥
 TakesDated (step r) = ⊥
 TakesDated (end n r) = ⊥
@@ -72,7 +72,7 @@ TakesDated look = ⊥
 -- neither
 pub record TheLastIsRemembered : Type 0 where
   pub opening : (o : Opening) → (opened o).previous.0 ≡ 0
-  pub undated : (d : Desk) (number work : ℕ) (r : Answer) → AskedUndated d number work r → r.verdict ≡ Yes
+  pub undated : (d : Desk) (number work : ℕ) (r : Answer) → AskedUndated d number work r → r.verdict ≡ Ok tt
       → r.desk.previous.0 ≡ undated_deadline d work
   pub others : (x : Did Call Desk) (d : Desk) → allows x.call d x.came → (TakesUndated x.call → ⊥)
       → x.came.state.previous ≡ d.previous
@@ -94,9 +94,9 @@ SharesAtMostAll o p q =
 
 -- the verdict of an ask with no date: not 6, so yes where no other line stops it
 pub record NotSix (d : Desk) (number work : ℕ) (r : Answer) : Type 0 where
-  pub never : r.verdict ≡ No DoesNotFit → ⊥
-  pub yes : first_of (undated_lines d number) ≡ Yes → first_of (ask_lines d number (ticks work) (ticks (undated_lead d work))) ≡ Yes
-      → r.verdict ≡ Yes
+  pub never : r.verdict ≡ Err DoesNotFit → ⊥
+  pub yes : first_of (undated_lines d number) ≡ Ok tt → first_of (ask_lines d number (ticks work) (ticks (undated_lead d work))) ≡ Ok tt
+      → r.verdict ≡ Ok tt
 
 -- NEVER 6, over any calls from an opening in which no job was taken with a lead of its own: asks that are refused, ends, rests and
 -- steps are all among them

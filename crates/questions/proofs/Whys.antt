@@ -22,8 +22,8 @@ use Rattle.ledger.specs.Books.{book_of}
 use Rattle.reasons.specs.Reasons.{no_reason}
 use Rattle.reasons.proofs.Fits.{overbooked_is_refused, tightest_is_taken}
 use Rattle.answers.specs.declared.Refusal.{Refusal}
-use Rattle.answers.specs.declared.Verdict.{Verdict}
-use Rattle.answers.specs.declared.Verdict.TheVariants.{Yes, No}
+use Rattle.answers.specs.Verdicts.{Verdict}
+use Rattle.std.specs.Prelude.{Ok, Err}
 use Rattle.answers.specs.Answers.{first_of, is_yes}
 use Rattle.answers.proofs.Answers.{yes_is_not_no}
 use Rattle.desk.specs.declared.Desk.{Desk}
@@ -35,8 +35,8 @@ use Rattle.questions.specs.Whys.{short_by, room_by, Decided, Told, Explained}
 
 module _ (d : Desk) (number work lead : ℕ) where
   -- a request that a line stops is told that refusal
-  stopped_explained : (x : Refusal) → first_of (ask_lines d number (ticks work) (ticks lead)) ≡ No x
-      → Explained d number work lead (record { verdict = No x; reason = no_reason })
+  pub stopped_explained : (x : Refusal) → first_of (ask_lines d number (ticks work) (ticks lead)) ≡ Err x
+      → Explained d number work lead (record { verdict = Err x; reason = no_reason })
   stopped_explained x e =
       record {
         stopped = λ y f. λ i. record { verdict = (sym e ∙ f) i; reason = no_reason };
@@ -46,11 +46,11 @@ module _ (d : Desk) (number work lead : ℕ) where
   -- the same told by the answer
   pub not_yes_explained : (v : Verdict) → v ≡ first_of (ask_lines d number (ticks work) (ticks lead)) → is_yes v ≡ false
       → Explained d number work lead (record { verdict = v; reason = no_reason })
-  not_yes_explained Yes e n = absurd (false≢true (sym n))
-  not_yes_explained (No x) e n = stopped_explained x (sym e)
+  not_yes_explained (Ok tt) e n = absurd (false≢true (sym n))
+  not_yes_explained (Err x) e n = stopped_explained x (sym e)
 
   -- one that none stops is told what decides it
-  pub told_explained : (w : Because) → first_of (ask_lines d number (ticks work) (ticks lead)) ≡ Yes
+  pub told_explained : (w : Because) → first_of (ask_lines d number (ticks work) (ticks lead)) ≡ Ok tt
       → Told d (requested d number work lead) w → Explained d number work lead w
   told_explained w e t = record { stopped = λ y f. absurd (yes_is_not_no y (sym e ∙ f)); told = λ f. t }
 
@@ -96,8 +96,8 @@ pub explained_once : (d : Desk) (number work lead : ℕ) (v w : Because) → Exp
 explained_once d number work lead v w a b = go (first_of (ask_lines d number (ticks work) (ticks lead))) refl
   where
     go : (u : Verdict) → first_of (ask_lines d number (ticks work) (ticks lead)) ≡ u → v ≡ w
-    go Yes e = told_once d (requested d number work lead) v w (a.told e) (b.told e)
-    go (No x) e = a.stopped x e ∙ sym (b.stopped x e)
+    go (Ok tt) e = told_once d (requested d number work lead) v w (a.told e) (b.told e)
+    go (Err x) e = a.stopped x e ∙ sym (b.stopped x e)
 
 -- the instant that decides the book with the job says whether it fits
 module _ (d : Desk) (j : Job) (a : Admissible d j) where
@@ -129,5 +129,5 @@ why_agrees_with_ask d number work lead w r s a b = go (first_of (ask_lines d num
     judge m D (inr p) (inr f) = absurd (f.0 (room_fits d j m D p.0))
 
     go : (v : Verdict) → first_of (ask_lines d number (ticks work) (ticks lead)) ≡ v → w.verdict ≡ r.verdict
-    go Yes e = judge (admissible d number work lead s e) (a.told e).at (a.told e).decided (b.judged e)
-    go (No x) e = ap (λ x. x.verdict) (a.stopped x e) ∙ ap (λ x. x.verdict) (sym (b.stopped x e))
+    go (Ok tt) e = judge (admissible d number work lead s e) (a.told e).at (a.told e).decided (b.judged e)
+    go (Err x) e = ap (λ x. x.verdict) (a.stopped x e) ∙ ap (λ x. x.verdict) (sym (b.stopped x e))

@@ -25,18 +25,11 @@ pub struct Because {
 pub fn ask_mesh(desk: Desk, head: &[u8], size: u64, number: u32, lead: u32) -> Answer
     ensures { AskedMesh desk head.now size number lead result }
 {
-    let mesh = mesh::read(head, size);
-    let verdict = mesh.verdict;
-    if verdict.is_yes() {
-        return desk.ask(number, mesh.work, lead);
+    match mesh::read(head, size) {
+        Ok(work) => desk.ask(number, work, lead),
+        Err(_) if !desk.in_order() => Answer::of(desk, Err(Refusal::NotInOrder)),
+        Err(refusal) => Answer::of(desk, Err(refusal)),
     }
-    if !desk.in_order() {
-        return Answer {
-            desk,
-            verdict: Verdict::No(Refusal::NotInOrder),
-        };
-    }
-    Answer { desk, verdict }
 }
 
 // Line 6, told by the instant that decides it.
@@ -48,14 +41,14 @@ fn explain(desk: Desk, job: Job) -> Because
     let all = ledger.moved(ledger.clock, ledger.feeds, ledger.table.taken(job));
     let debt = reasons::tightest(all);
     let reason = reasons::reason_at(ledger, job, debt.at);
-    if debt.owed.is_longer(debt.at.ticks_since(ledger.clock)) {
+    if debt.at.ticks_since(ledger.clock) < debt.owed {
         return Because {
-            verdict: Verdict::No(Refusal::DoesNotFit),
+            verdict: Err(Refusal::DoesNotFit),
             reason,
         };
     }
     Because {
-        verdict: Verdict::Yes,
+        verdict: Ok(()),
         reason: Reason::near(debt.at, reason.margin),
     }
 }
@@ -64,14 +57,11 @@ fn explain(desk: Desk, job: Job) -> Because
 pub fn why(desk: Desk, number: u32, work: u32, lead: u32) -> Because
     ensures { Explained desk number work lead result }
 {
-    let request = desk.request(number, work, lead);
-    let verdict = request.verdict;
-    let job = request.job;
-    if !verdict.is_yes() {
-        return Because {
-            verdict,
+    match desk.request(number, work, lead) {
+        Ok(job) => explain(desk, job),
+        Err(refusal) => Because {
+            verdict: Err(refusal),
             reason: Reason::none(),
-        };
+        },
     }
-    explain(desk, job)
 }

@@ -1,15 +1,15 @@
 -- `questions::explain` meets its contract: the instant that decides is told.
 use mathlib.Core.Path.{sym, ap, subst, ◌∙◌}
-use Prim.Native.Nat.{◌<◌}
+use Prim.Native.Nat.{◌<◌, ◌≤◌}
+use borrow.Author.Rules.{rules}
 use native.Mathlib.Omega.{arith}
 use mir.Syntax.{w64}
 use mir.Val.{SFits}
 use mir.ValLaws.{to_z-of_z}
-use borrow.Author.Tests.{ltb-true, ltb-false}
 use Rattle.edf.specs.Book.{Book}
 use Rattle.edf.proofs.Reordered.{reordered_sym, reordered_owed, reordered_telling}
 use Rattle.answers.specs.declared.Refusal.TheVariants.{DoesNotFit}
-use Rattle.answers.specs.declared.Verdict.TheVariants.{Yes, No}
+use Rattle.std.specs.Prelude.{Ok, Err}
 use Rattle.ledger.specs.State.{InOrder}
 use Rattle.ledger.specs.Books.{book_of}
 use Rattle.desk.proofs.InOrder.{in_order_lem}
@@ -44,8 +44,8 @@ reason_at-reason-requires c =
     told_after c.args.desk c.args.job c.tightest-debt.result.at.0 tells.telling in
     (order, omega (arith, c.requires.job.owed.1, order.charge), tells.reach, omega (arith, after))
 
-pub returns-then-is_longer : goal.returns-then-is_longer
-returns-then-is_longer c =
+pub returns-then-lt : goal.returns-then-lt
+returns-then-lt c =
     let all : Book =
     with_job c.args.desk c.args.job in
     let tells : Tells c.args.desk.ledger.clock all c.tightest-debt.result =
@@ -59,9 +59,9 @@ returns-then-is_longer c =
     } in
     let a = c.args in
     let r = c.tightest-debt.result in
-    let short = ltb-true c.ticks_since.result.0 r.owed.0 (sym c.is_longer.ensures ∙ c.if-is_longer.true) in
+    let short : c.ticks_since.result.0 < c.tightest-debt.result.owed.0 = search rules in
     short_told a.desk a.job r.at.0 tells.telling _ (omega (arith, short, tells.owed, ap (λ l. l.0) c.ticks_since.ensures))
-    (λ i. record { verdict = No DoesNotFit; reason = c.reason_at-reason.ensures i })
+    (λ i. record { verdict = Err DoesNotFit; reason = c.reason_at-reason.ensures i })
 
 pub returns : goal.returns
 returns c =
@@ -80,9 +80,9 @@ returns c =
     record { sfits = c.reason_at-reason.type_inv.1.1.1.1.1.1.0.1 } in
     let a = c.args in
     let r = c.tightest-debt.result in
-    let time = ltb-false c.ticks_since.result.0 r.owed.0 (sym c.is_longer.ensures ∙ c.if-is_longer.false) in
+    let time : c.tightest-debt.result.owed.0 ≤ c.ticks_since.result.0 = search rules in
     room_told a.desk a.job r.at.0 tells.telling _ (omega (arith, time, tells.owed, ap (λ l. l.0) c.ticks_since.ensures))
     (λ i. record {
-      verdict = Yes;
+      verdict = Ok tt;
       reason = (c.near.ensures ∙ ap (near_reason r.at) (to_z-of_z w64 c.reason_at-reason.result.margin narrow ∙ ap (λ x. x.margin) c.reason_at-reason.ensures)) i;
     })

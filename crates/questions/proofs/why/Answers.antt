@@ -1,64 +1,27 @@
 -- `questions::why` meets its contract: lines 13 and 1 to 5, then what decides line 6.
-use mathlib.Core.Path.{◌≡◌, sym, ap, subst, ◌∙◌}
-use borrow.Author.Rules.{rules}
-use borrow.Author.Tests.{not-true, not-false}
+use Rattle.std.proofs.Common.{rules, Err, sym, subst, ◌∙◌}
 use Rattle.lists.proofs.Places.{length_mapped}
-use Rattle.ticks.specs.Ticks.{ticks}
-use Rattle.jobs.specs.declared.Job.{Job}
-use Rattle.jobs.specs.Jobs.{no_job}
-use Rattle.answers.specs.declared.Verdict.{Verdict}
-use Rattle.answers.specs.declared.Verdict.TheVariants.{Yes}
-use Rattle.answers.specs.Answers.{first_of, is_yes}
-use Rattle.answers.proofs.Answers.{is_yes_lem, on_yes_lem}
-use Rattle.ledger.specs.State.{Sized}
-use Rattle.desk.specs.Asking.{ask_lines, requested, request_of, Admissible}
-use Rattle.desk.proofs.Asking.{admissible}
+use Rattle.desk.specs.Asking.{Admissible}
+use Rattle.desk.proofs.Asking.{admissible, request_refused, request_passed}
 use Rattle.questions.specs.Whys.{Told, Explained}
-use Rattle.questions.proofs.Whys.{not_yes_explained, told_explained}
+use Rattle.questions.proofs.Whys.{stopped_explained, told_explained}
 use Rattle.questions.proofs.why.Goals as goal
 
-pub returns-then-not-is_yes : goal.returns-then-not-is_yes
-unfolding request_of
-returns-then-not-is_yes c =
-    let lines : Verdict =
-    first_of (ask_lines c.args.desk c.args.number (ticks c.args.work) (ticks c.args.lead)) in
-    let says : c.request-request.result.verdict ≡ lines =
-    ap (λ r. r.verdict) c.request-request.ensures in
-    let a = c.args in
-    subst (λ x. Explained a.desk a.number a.work a.lead (record { verdict = c.request-request.result.verdict; reason = x }))
-    (sym c.none.ensures)
-    (not_yes_explained a.desk a.number a.work a.lead _ says (sym c.is_yes.ensures ∙ not-true _ c.if-not-is_yes.true-raw))
-
 pub explain-requires : goal.explain-requires
-unfolding request_of
 explain-requires c =
-    let sized : Sized c.args.desk.ledger =
-    record { feeds = search (rules, length_mapped); jobs = search (rules, length_mapped) } in
-    let lines : Verdict =
-    first_of (ask_lines c.args.desk c.args.number (ticks c.args.work) (ticks c.args.lead)) in
-    let says : c.request-request.result.verdict ≡ lines =
-    ap (λ r. r.verdict) c.request-request.ensures in
-    let none-stops : lines ≡ Yes =
-    is_yes_lem _ (ap is_yes (sym says) ∙ sym c.is_yes.ensures ∙ not-false _ c.if-not-is_yes.false-raw) in
-    let wanted : Job =
-    requested c.args.desk c.args.number c.args.work c.args.lead in
-    let asked : c.request-request.result.job ≡ wanted =
-    ap (λ r. r.job) c.request-request.ensures ∙ on_yes_lem lines wanted no_job (ap is_yes none-stops) in
     let a = c.args in
-    subst (Admissible a.desk) (sym asked) (admissible a.desk a.number a.work a.lead sized none-stops)
+    let (says, is) = request_passed a.desk a.number a.work a.lead _ (sym c.request.ensures ∙ c.in-Ok.is) in
+    subst (Admissible a.desk) (sym is) (admissible a.desk a.number a.work a.lead (record { feeds = search (rules, length_mapped); jobs = search (rules, length_mapped) }) says)
 
-pub returns : goal.returns
-unfolding request_of
-returns c =
-    let lines : Verdict =
-    first_of (ask_lines c.args.desk c.args.number (ticks c.args.work) (ticks c.args.lead)) in
-    let says : c.request-request.result.verdict ≡ lines =
-    ap (λ r. r.verdict) c.request-request.ensures in
-    let none-stops : lines ≡ Yes =
-    is_yes_lem _ (ap is_yes (sym says) ∙ sym c.is_yes.ensures ∙ not-false _ c.if-not-is_yes.false-raw) in
-    let wanted : Job =
-    requested c.args.desk c.args.number c.args.work c.args.lead in
-    let asked : c.request-request.result.job ≡ wanted =
-    ap (λ r. r.job) c.request-request.ensures ∙ on_yes_lem lines wanted no_job (ap is_yes none-stops) in
+pub returns-in-Ok : goal.returns-in-Ok
+returns-in-Ok c =
     let a = c.args in
-    told_explained a.desk a.number a.work a.lead _ none-stops (subst (λ j. Told a.desk j c.explain.result) asked c.explain.ensures)
+    let (says, is) = request_passed a.desk a.number a.work a.lead _ (sym c.request.ensures ∙ c.in-Ok.is) in
+    told_explained a.desk a.number a.work a.lead _ says (subst (λ j. Told a.desk j c.explain.result) is c.explain.ensures)
+
+pub returns-in-Err : goal.returns-in-Err
+returns-in-Err c =
+    let a = c.args in
+    let no = request_refused a.desk a.number a.work a.lead _ (sym c.request.ensures ∙ c.in-Err.is) in
+    subst (λ r. Explained a.desk a.number a.work a.lead (record { verdict = Err c.in-Err.refusal; reason = r })) (sym c.none.ensures)
+    (stopped_explained a.desk a.number a.work a.lead _ no)

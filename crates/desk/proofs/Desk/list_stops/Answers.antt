@@ -1,36 +1,18 @@
 -- `desk::Desk::list_stops` meets its contract: line 13, then line 11.
-use mathlib.Core.Path.{◌≡◌, sym, ap, ◌∙◌}
-use mathlib.Core.Bool.{true, not}
-use borrow.Author.Rules.{rules}
-use borrow.Author.Tests.{not-true, not-false}
+use Rattle.std.proofs.Common.{rules, arith, ◌≤◌}
 use Rattle.lists.proofs.Places.{length_mapped}
-use Rattle.answers.proofs.Answers.{stops, goes_on_lem, no_line}
-use Rattle.ledger.specs.State.{Sized}
-use Rattle.desk.specs.State.{in_order}
-use Rattle.desk.proofs.InOrder.{in_order_lem}
-use native.Mathlib.Omega.{arith}
-use borrow.Author.Tests.{lt-ltb, le-ltb}
+use Rattle.answers.proofs.Answers.{stopped_by, passed_by, last_by}
+use Rattle.desk.proofs.InOrder.{few_in_order, in_order_told}
+use Rattle.jobs.specs.Jobs.{most_jobs}
 use Rattle.desk.proofs.Desk.list_stops.Goals as goal
 
-pub returns-then-not-in_order : goal.returns-then-not-in_order
-returns-then-not-in_order c = sym (stops _ _ (ap not (sym c.in_order.ensures ∙ not-true _ c.if-not-in_order.true-raw)))
+pub returns-in_err-when : goal.returns-in_err-when
+returns-in_err-when c = search (rules, stopped_by)
 
 pub overflow_mul-self : goal.overflow_mul-self
 overflow_mul-self c =
-    let sized : Sized c.args.self.ledger =
-    record { feeds = search (rules, length_mapped); jobs = search (rules, length_mapped) } in
-    let fine : in_order c.args.self ≡ true =
-    sym c.in_order.ensures ∙ not-false _ c.if-not-in_order.false-raw in
-    record { fits = omega (arith, (in_order_lem _ sized fine).tidy_table.few) }
-
-pub returns-then-size-self : goal.returns-then-size-self
-returns-then-size-self c =
-    let fine : in_order c.args.self ≡ true =
-    sym c.in_order.ensures ∙ not-false _ c.if-not-in_order.false-raw in
-    sym (goes_on_lem _ _ _ (ap not fine) (stops _ _ (lt-ltb _ _ c.if-size-self.true)))
+    let few : c.args.self.ledger.table.count ≤ most_jobs = search (rules, length_mapped, few_in_order, in_order_told) in
+    omega (arith, few)
 
 pub returns : goal.returns
-returns c =
-    let fine : in_order c.args.self ≡ true =
-    sym c.in_order.ensures ∙ not-false _ c.if-not-in_order.false-raw in
-    sym (goes_on_lem _ _ _ (ap not fine) (goes_on_lem _ _ _ (le-ltb _ _ c.if-size-self.false) no_line))
+returns c = search (rules, passed_by, last_by)

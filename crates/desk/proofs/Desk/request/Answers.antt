@@ -1,12 +1,14 @@
--- `desk::Desk::request` meets its contract: line 13, then the others.
-use mathlib.Core.Path.{refl, sym, ap, ◌∙◌}
-use mathlib.Core.Bool.{not}
-use borrow.Author.Tests.{not-true}
-use Rattle.answers.proofs.Answers.{stops}
+-- `desk::Desk::request` meets its contract: line 13, then the request.
+use Rattle.std.proofs.Common.{rules, ◌≡◌, not, Err, sym, ap, ◌∙◌}
+use Rattle.answers.specs.declared.Refusal.TheVariants.{NotInOrder}
+use Rattle.answers.proofs.Answers.{stops, stopped_is}
+use Rattle.desk.specs.Calls.{disorder}
 use Rattle.desk.proofs.Asking.{refused_request}
 use Rattle.desk.proofs.Desk.request.Goals as goal
 
-pub returns-then-not-in_order : goal.returns-then-not-in_order
-returns-then-not-in_order c =
+pub returns-in_err-when : goal.returns-in_err-when
+returns-in_err-when c =
     let a = c.args in
-    refused_request a.self a.number a.work a.lead _ (sym (stops _ _ (ap not (sym c.in_order.ensures ∙ not-true _ c.if-not-in_order.true-raw)))) refl
+    let from : c.from_residual.result ≡ Err c.in_err-when.field-0.0 = search rules in
+    let (holds, which) = stopped_is _ NotInOrder _ (sym c.when.ensures ∙ c.in_err-when.was) in
+    from ∙ ap Err which ∙ refused_request a.self a.number a.work a.lead NotInOrder (stops (disorder a.self) _ (ap not (sym c.in_order.ensures) ∙ holds))

@@ -51,6 +51,7 @@ time_for-time-requires c =
 
 pub plus-requires : goal.plus-requires
 plus-requires c =
+    let later : c.max.result ≡ later_of c.args.self.ledger.clock c.args.self.previous = search rules in
     let sized : Sized c.args.self.ledger =
     record { feeds = search (rules, length_mapped); jobs = search (rules, length_mapped) } in
     let order : InOrder c.args.self.ledger =
@@ -66,11 +67,12 @@ plus-requires c =
     let few : c.args.work.0 + c.args.self.ledger.charge.0 ≤ 2 ^ 33 = omega (arith, order.charge, c.requires.2) in
     omega (arith, time, time_bounded c.args.self.share (c.args.work.0 + c.args.self.ledger.charge.0) (2 ^ 33) c.requires.1 few) in
     let s = c.args.self in
-    omega (arith, short, ap (λ t. t.0) c.later_of.ensures, later_within s.ledger.clock s.previous order.clock beside.previous)
+    omega (arith, short, ap (λ t. t.0) later, later_within s.ledger.clock s.previous order.clock beside.previous)
 
 pub returns : goal.returns
 unfolding deadline_at at_share
 returns c =
+    let later : c.max.result ≡ later_of c.args.self.ledger.clock c.args.self.previous = search rules in
     let sized : Sized c.args.self.ledger =
     record { feeds = search (rules, length_mapped); jobs = search (rules, length_mapped) } in
     let order : InOrder c.args.self.ledger =
@@ -88,8 +90,8 @@ returns c =
     let due : c.plus.result.0 ≡ deadline_at c.args.self.share.p c.args.self.share.q c.args.self.previous.0 c.args.self.ledger.clock.0 (c.args.work.0 + c.args.self.ledger.charge.0) =
     let s = c.args.self in
     ap (λ t. t.0) c.plus.ensures
-    ∙ (λ i. (ap (λ t. t.0) c.later_of.ensures ∙ later_read s.ledger.clock s.previous) i + time i) in
+    ∙ (λ i. (ap (λ t. t.0) later ∙ later_read s.ledger.clock s.previous) i + time i) in
     let s = c.args.self in (
       c.ticks_since.ensures ∙ ap (λ n. ticks (n - s.ledger.clock.0)) due,
-      omega (arith, ap (λ l. l.0) c.ticks_since.ensures, ap (λ t. t.0) c.plus.ensures, ap (λ t. t.0) c.later_of.ensures, short, later_within s.ledger.clock s.previous order.clock beside.previous),
+      omega (arith, ap (λ l. l.0) c.ticks_since.ensures, ap (λ t. t.0) c.plus.ensures, ap (λ t. t.0) later, short, later_within s.ledger.clock s.previous order.clock beside.previous),
     )
