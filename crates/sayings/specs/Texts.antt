@@ -2,6 +2,7 @@
 use Rattle.std.specs.Prelude.{cond, List, [], ◌++◌, ℕ, eqb}
 use Rattle.text.specs.Text.{spelt}
 use Rattle.text.specs.Numbers.{digits}
+use Rattle.answers.specs.declared.Who.{Who}
 use Rattle.sayings.specs.declared.Said.{Said}
 
 -- no answer is longer than this
@@ -18,9 +19,15 @@ call_text word refusal = word ++ verdict_text (spelt "ok\n") refusal
 abbrev pub ask_text : ℕ → ℕ → List ℕ
 ask_text number refusal = (spelt "ask " ++ (digits number ++ spelt " ")) ++ verdict_text (spelt "yes\n") refusal
 
--- a tick's instant and whom it went to
-abbrev pub tick_text : ℕ → List ℕ → ℕ → List ℕ
-tick_text instant word n = digits instant ++ (word ++ (digits n ++ spelt "\n"))
+-- whom a tick goes to
+abbrev pub who_text : Who → List ℕ
+who_text (Who.Job number) = spelt " job " ++ (digits number ++ spelt "\n")
+who_text (Who.Feed position) = spelt " feed " ++ (digits position ++ spelt "\n")
+who_text Who.Idle = spelt " idle\n"
+
+-- a tick's instant and whom it goes to
+abbrev pub tick_text : ℕ → Who → List ℕ
+tick_text instant who = digits instant ++ who_text who
 
 -- the text of what is said
 unfoldable pub text_of : Said → List ℕ
@@ -30,7 +37,5 @@ text_of (Said.Go refusal) = call_text (spelt "go ") refusal
 text_of (Said.Ask number refusal) = ask_text number refusal
 text_of (Said.End refusal) = call_text (spelt "end ") refusal
 text_of (Said.Rest refusal) = call_text (spelt "rest ") refusal
-text_of (Said.Job instant number) = tick_text instant (spelt " job ") number
-text_of (Said.Feed instant position) = tick_text instant (spelt " feed ") position
-text_of (Said.Idle instant) = digits instant ++ spelt " idle\n"
+text_of (Said.Tick instant who) = tick_text instant who
 text_of (Said.Stopped refusal) = spelt "run no " ++ (digits refusal ++ spelt "\n")

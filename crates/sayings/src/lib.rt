@@ -4,7 +4,10 @@
 
 pub mod put;
 
-// What an answer says; a refusal is told by its number, and 0 is a yes.
+use answers::Who;
+
+// What an answer says: of a line, of a call, of a tick at an instant, or of a run that a refused step has ended. A refusal is
+// told by its number, any number, and 0 is a yes.
 #[derive(Clone, Copy)]
 pub enum Said {
     Nothing,
@@ -13,8 +16,6 @@ pub enum Said {
     Ask(u32, u32),
     End(u32),
     Rest(u32),
-    Job(u64, u32),
-    Feed(u64, u32),
-    Idle(u64),
+    Tick(u64, Who),
     Stopped(u32),
 }

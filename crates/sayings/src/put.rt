@@ -2,9 +2,10 @@
 ghost use Rattle.std.specs.Prelude.{◌++◌, ◌+◌, ◌≤◌, length};
 ghost use Rattle.text.specs.Put.{Put};
 ghost use Rattle.text.specs.Numbers.{digits};
-ghost use Rattle.sayings.specs.Texts.{most_text, verdict_text, call_text, ask_text, tick_text, text_of};
+ghost use Rattle.sayings.specs.Texts.{most_text, verdict_text, call_text, ask_text, who_text, tick_text, text_of};
 
 use crate::Said;
+use answers::Who;
 use text::put::worded;
 
 // No answer is longer than this.
@@ -16,9 +17,10 @@ fn verdict(out: &mut [u8], at: usize, yes: &[u8], refusal: u32) -> usize
     ensures { Put out.old out.new at result (verdict_text yes.now refusal) }
 {
     if refusal == 0 {
-        return text::put::text(out, at, yes);
+        text::put::text(out, at, yes)
+    } else {
+        worded(out, at, b"no ", u64::from(refusal), b"\n")
     }
-    worded(out, at, b"no ", refusal as u64, b"\n")
 }
 
 // `ok`, or `no` and the number, after a word.
@@ -34,20 +36,34 @@ fn asked(out: &mut [u8], at: usize, number: u32, refusal: u32) -> usize
     requires { at + most_text ≤ length out.old }
     ensures { Put out.old out.new at result (ask_text number refusal) }
 {
-    let a = worded(out, at, b"ask ", number as u64, b" ");
+    let a = worded(out, at, b"ask ", u64::from(number), b" ");
     verdict(out, a, b"yes\n", refusal)
 }
 
-// The instant of a tick and whom it went to.
-fn ticked(out: &mut [u8], at: usize, instant: u64, word: &[u8], n: u32) -> usize
-    requires { (at + most_text ≤ length out.old) × (length word.now ≤ 8) }
-    ensures { Put out.old out.new at result (tick_text instant word.now n) }
+// Whom a tick goes to.
+fn named(out: &mut [u8], at: usize, who: Who) -> usize
+    requires { at + 32 ≤ length out.old }
+    ensures { Put out.old out.new at result (who_text who) }
+{
+    match who {
+        Who::Job(number) => worded(out, at, b" job ", u64::from(number), b"\n"),
+        Who::Feed(position) => worded(out, at, b" feed ", u64::from(position), b"\n"),
+        Who::Idle => text::put::text(out, at, b" idle\n"),
+    }
+}
+
+// The instant of a tick and whom it goes to.
+#[tactic(auto, using(text::proofs::Numbers::digits_wide, text::proofs::Texts::put_length))]
+fn ticked(out: &mut [u8], at: usize, instant: u64, who: Who) -> usize
+    requires { at + most_text ≤ length out.old }
+    ensures { Put out.old out.new at result (tick_text instant who) }
 {
     let a = text::put::number(out, at, instant);
-    worded(out, a, word, n as u64, b"\n")
+    named(out, a, who)
 }
 
 // The text of what is said.
+#[tactic(auto, using(text::proofs::Texts::put_nothing), unfolding(crate::specs::Texts::text_of))]
 pub fn said(out: &mut [u8], at: usize, said: Said) -> usize
     requires { at + most_text ≤ length out.old }
     ensures { Put out.old out.new at result (text_of said) }
@@ -59,9 +75,7 @@ pub fn said(out: &mut [u8], at: usize, said: Said) -> usize
         Said::Ask(number, refusal) => asked(out, at, number, refusal),
         Said::End(refusal) => called(out, at, b"end ", refusal),
         Said::Rest(refusal) => called(out, at, b"rest ", refusal),
-        Said::Job(instant, number) => ticked(out, at, instant, b" job ", number),
-        Said::Feed(instant, position) => ticked(out, at, instant, b" feed ", position),
-        Said::Idle(instant) => worded(out, at, b"", instant, b" idle\n"),
-        Said::Stopped(refusal) => worded(out, at, b"run no ", refusal as u64, b"\n"),
+        Said::Tick(instant, who) => ticked(out, at, instant, who),
+        Said::Stopped(refusal) => worded(out, at, b"run no ", u64::from(refusal), b"\n"),
     }
 }

@@ -1,18 +1,18 @@
 -- Ends of lines and decimal numbers, computed.
 use mathlib.Core.Path.{◌≡◌, refl}
-use Rattle.text.specs.declared.Found.{Found}
+use Rattle.std.specs.Prelude.{Some, None}
 use Rattle.text.specs.Text.{spelt}
 use Rattle.text.specs.Numbers.{numeral_in, numeral, digits}
 use Rattle.text.specs.Fields.{found_in, line_end}
 
 -- the ends of two lines, and no third
 pub ends :
-    (line_end (spelt "go 0\nrun 1\n") 0 ≡ Found.At 4)
-    × (line_end (spelt "go 0\nrun 1\n") 4 ≡ Found.At 4)
-    × (line_end (spelt "go 0\nrun 1\n") 5 ≡ Found.At 10)
-    × (line_end (spelt "go 0\nrun 1\n") 11 ≡ Found.Nothing)
-    × (line_end (spelt "go 0") 0 ≡ Found.Nothing)
-    × (line_end (spelt "") 7 ≡ Found.Nothing)
+    (line_end (spelt "go 0\nrun 1\n") 0 ≡ Some 4)
+    × (line_end (spelt "go 0\nrun 1\n") 4 ≡ Some 4)
+    × (line_end (spelt "go 0\nrun 1\n") 5 ≡ Some 10)
+    × (line_end (spelt "go 0\nrun 1\n") 11 ≡ None)
+    × (line_end (spelt "go 0") 0 ≡ None)
+    × (line_end (spelt "") 7 ≡ None)
 unfolding found_in
 ends = (refl, refl, refl, refl, refl, refl)
 

@@ -1,24 +1,23 @@
 -- Laws on finding a byte, on the fields of a line, and on words that are the same.
 use mathlib.Core.Path.{◌≡◌, refl, sym, ap, ◌∙◌, subst}
-use mathlib.Core.Bool.{Bool, true, false, ◌&&◌, and-false}
+use mathlib.Core.Bool.{Bool, true, false}
 use mathlib.Core.List.{List, [], ◌∷◌}
 use Prim.Native.Nat.{ℕ, zero, suc, ◌+◌, ◌-◌, ◌≤◌, ◌<◌, zero-le, suc-le-suc}
 use native.Mathlib.Nat.{le_of_suc-le-suc, le_refl}
-use native.Mathlib.Numerals.{add-one}
 use native.Mathlib.Decide.{ℕ_discrete}
 use native.Mathlib.Omega.{arith}
-use borrow.Author.Tests.{eq-eqb, ne_eqb, eqb-true}
+use borrow.Author.Tests.{eq-eqb, ne_eqb}
 use lib.Dec.{eqb}
-use lib.ListN.{length, get_or, take, drop, length-drop}
-use lib.Seq.{drop-cons, drop-drop, get_or-drop, take_all}
-use Rattle.text.specs.declared.Found.{Found}
+use lib.ListN.{length, get_or, take, drop, length-drop, drop_of_length-le}
+use lib.Seq.{drop-drop, get_or-drop, take_all}
+use Rattle.std.specs.Prelude.{Option, Some, None, cond}
+use Rattle.std.specs.List.{position_from}
+use Rattle.std.specs.Option.{option_map}
+use Rattle.std.specs.Cmp.Lexicographic.{same_text}
 use Rattle.text.specs.Fields.{same, found_in, grown, parted}
 
-pub next_byte : (s : List ℕ) (i : ℕ) → i < length s → drop i s ≡ get_or s i 0 ∷ drop (i + 1) s
-next_byte s i h = drop-cons s i 0 h ∙ ap (λ n. get_or s i 0 ∷ drop n s) (sym (add-one i))
-
 module _ (byte i : ℕ) (b : ℕ) (s : List ℕ) where
-  pub found_here : b ≡ byte → found_in byte i (b ∷ s) ≡ Found.At i
+  pub found_here : b ≡ byte → found_in byte i (b ∷ s) ≡ Some i
   unfolding found_in
   found_here h = rw (eq-eqb b byte h)
 
@@ -26,9 +25,28 @@ module _ (byte i : ℕ) (b : ℕ) (s : List ℕ) where
   unfolding found_in
   found_past h = rw (ne_eqb b byte h)
 
-pub found_empty : (byte i : ℕ) → found_in byte i [] ≡ Found.Nothing
+pub found_empty : (byte i : ℕ) → found_in byte i [] ≡ None
 unfolding found_in
 found_empty byte i = refl
+
+-- nothing is found past the end
+pub found_past_end : (byte from : ℕ) (s : List ℕ) → length s ≤ from → found_in byte from (drop from s) ≡ None
+unfolding found_in
+found_past_end byte from s h = rw (drop_of_length-le s h) refl
+
+-- what is found is so far behind where the list begins as it is in the list
+pub found_behind : (byte i : ℕ) (s : List ℕ) → found_in byte i s ≡ option_map (λ k. i + k) (position_from (λ b. eqb b byte) 0 s)
+unfolding found_in
+found_behind byte i s = ap (λ n. found_in byte n s) (omega arith) ∙ go s 0
+  where
+    go : (s : List ℕ) (j : ℕ) → found_in byte (i + j) s ≡ option_map (λ k. i + k) (position_from (λ b. eqb b byte) j s)
+    go [] j = refl
+    go (b ∷ s) j = at_byte (eqb b byte) (go s (j + 1))
+      where
+        at_byte : (x : Bool) → found_in byte (i + (j + 1)) s ≡ option_map (λ k. i + k) (position_from (λ b. eqb b byte) (j + 1) s)
+            → cond x (Some (i + j)) (found_in byte (suc (i + j)) s) ≡ option_map (λ k. i + k) (cond x (Some j) (position_from (λ b. eqb b byte) (j + 1) s))
+        at_byte true h = refl
+        at_byte false h = ap (λ n. found_in byte n s) (omega arith) ∙ h
 
 -- the byte stands at the place j of the list, and at none before it
 record First (byte j : ℕ) (s : List ℕ) : Type 0 where
@@ -52,13 +70,12 @@ first_more byte b j s p f = record { inside = suc-le-suc f.inside; holds = f.hol
     none (suc m) l e = f.none m (le_of_suc-le-suc l) e
 
 -- what is found is the first
-found_first : (byte i k : ℕ) (s : List ℕ) → found_in byte i s ≡ Found.At k → (j : ℕ) × (k ≡ i + j) × First byte j s
+found_first : (byte i k : ℕ) (s : List ℕ) → found_in byte i s ≡ Some k → (j : ℕ) × (k ≡ i + j) × First byte j s
 found_first byte i k [] e =
-    let z : ◌≡◌ {A = ℕ} 0 1 = cc (found_empty byte i) in
-    absurd (omega arith)
+    cc (found_empty byte i)
 found_first byte i k (b ∷ s) e = go (ℕ_discrete b byte) (found_first byte (suc i) k s)
   where
-    go : Dec (b ≡ byte) → (found_in byte (suc i) s ≡ Found.At k → (j : ℕ) × (k ≡ suc i + j) × First byte j s)
+    go : Dec (b ≡ byte) → (found_in byte (suc i) s ≡ Some k → (j : ℕ) × (k ≡ suc i + j) × First byte j s)
         → (j : ℕ) × (k ≡ i + j) × First byte j (b ∷ s)
     go (yes p) ih =
         let here : i ≡ k = cc (found_here byte i b s p) in
@@ -68,14 +85,13 @@ found_first byte i k (b ∷ s) e = go (ℕ_discrete b byte) (found_first byte (s
         (suc r.0, omega (arith, r.1), first_more byte b r.0 s p r.2)
 
 -- where nothing is found the byte stands nowhere
-found_nothing : (byte i : ℕ) (s : List ℕ) → found_in byte i s ≡ Found.Nothing → Absent byte s
+found_nothing : (byte i : ℕ) (s : List ℕ) → found_in byte i s ≡ None → Absent byte s
 found_nothing byte i [] e = λ m l h. omega arith
 found_nothing byte i (b ∷ s) e = go (ℕ_discrete b byte) (found_nothing byte (suc i) s)
   where
-    go : Dec (b ≡ byte) → (found_in byte (suc i) s ≡ Found.Nothing → Absent byte s) → Absent byte (b ∷ s)
+    go : Dec (b ≡ byte) → (found_in byte (suc i) s ≡ None → Absent byte s) → Absent byte (b ∷ s)
     go (yes p) ih =
-        let z : ◌≡◌ {A = ℕ} 0 1 = cc (found_here byte i b s p) in
-        absurd (omega arith)
+        cc (found_here byte i b s p)
     go (no p) ih = absent_more byte b s p (ih (sym (found_past byte i b s p) ∙ e))
 
 -- the byte stands at the place k, and at none from `from` up to it
@@ -91,7 +107,7 @@ at_rest s from m h =
     let e : from + (m - from) ≡ m = omega arith in
     get_or-drop from s (m - from) 0 ∙ ap (λ n. get_or s n 0) e
 
-pub found_at : (byte : ℕ) (s : List ℕ) (from k : ℕ) → found_in byte from (drop from s) ≡ Found.At k → Stands byte s from k
+pub found_at : (byte : ℕ) (s : List ℕ) (from k : ℕ) → found_in byte from (drop from s) ≡ Some k → Stands byte s from k
 found_at byte s from k e =
     let f = found_first byte from k (drop from s) e in
     let there : k ≡ from + f.0 = f.1 in
@@ -104,7 +120,7 @@ found_at byte s from k e =
       none = λ m h l g. f.2.none (m - from) (omega arith) (at_rest s from m h ∙ g);
     }
 
-pub found_nowhere : (byte : ℕ) (s : List ℕ) (from : ℕ) → found_in byte from (drop from s) ≡ Found.Nothing
+pub found_nowhere : (byte : ℕ) (s : List ℕ) (from : ℕ) → found_in byte from (drop from s) ≡ None
     → (m : ℕ) → from ≤ m → m < length s → get_or s m 0 ≡ byte → ⊥
 found_nowhere byte s from e m h l g =
     let n : length (drop from s) ≡ length s - from = length-drop from s in
@@ -134,7 +150,7 @@ pub record Cut (byte : ℕ) (s : List ℕ) (from k : ℕ) : Type 0 where
   pub inside : k < length s
   pub fields : parted byte (drop from s) ≡ take (k - from) (drop from s) ∷ parted byte (drop (k + 1) s)
 
-pub cut_at : (byte : ℕ) (s : List ℕ) (from k : ℕ) → found_in byte from (drop from s) ≡ Found.At k → Cut byte s from k
+pub cut_at : (byte : ℕ) (s : List ℕ) (from k : ℕ) → found_in byte from (drop from s) ≡ Some k → Cut byte s from k
 cut_at byte s from k e =
     let f = found_first byte from k (drop from s) e in
     let place = found_at byte s from k e in
@@ -149,50 +165,21 @@ cut_at byte s from k e =
           ∙ ap (λ l. take f.0 (drop from s) ∷ parted byte l) (drop-drop (suc f.0) from s ∙ ap (λ n. drop n s) past));
     }
 
-pub cut_nowhere : (byte : ℕ) (s : List ℕ) (from : ℕ) → found_in byte from (drop from s) ≡ Found.Nothing → parted byte (drop from s) ≡ drop from s ∷ []
+pub cut_nowhere : (byte : ℕ) (s : List ℕ) (from : ℕ) → found_in byte from (drop from s) ≡ None → parted byte (drop from s) ≡ drop from s ∷ []
 cut_nowhere byte s from e = fields_whole byte (drop from s) (found_nothing byte from (drop from s) e)
 
 -- there is a first part
 pub fields_some : (byte : ℕ) (s : List ℕ) → (f : List ℕ) × (fs : List (List ℕ)) × (parted byte s ≡ f ∷ fs)
 fields_some byte s = go (found_in byte 0 s) refl
   where
-    go : (r : Found) → found_in byte 0 s ≡ r → (f : List ℕ) × (fs : List (List ℕ)) × (parted byte s ≡ f ∷ fs)
-    go (Found.At k) e = (_, _, (cut_at byte s 0 k e).fields)
-    go Found.Nothing e = (_, _, cut_nowhere byte s 0 e)
-
--- two words whose lengths differ are not the same
-pub same_length : (s t : List ℕ) → (length s ≡ length t → ⊥) → false ≡ same s t
-unfolding same
-same_length [] [] h = absurd (h refl)
-same_length [] (b ∷ t) h = refl
-same_length (a ∷ s) [] h = refl
-same_length (a ∷ s) (b ∷ t) h = sym (ap (λ x. eqb a b && x) (sym (same_length s t (λ e. h (ap suc e)))) ∙ and-false (eqb a b))
-
-module _ (a b : ℕ) (s t : List ℕ) where
-  pub same_past : a ≡ b → same (a ∷ s) (b ∷ t) ≡ same s t
-  unfolding same
-  same_past h = rw (eq-eqb a b h)
-
-  pub same_not : (a ≡ b → ⊥) → same (a ∷ s) (b ∷ t) ≡ false
-  unfolding same
-  same_not h = rw (ne_eqb a b h)
-
-pub same_empty : same [] [] ≡ true
-unfolding same
-same_empty = refl
+    go : (r : Option ℕ) → found_in byte 0 s ≡ r → (f : List ℕ) × (fs : List (List ℕ)) × (parted byte s ≡ f ∷ fs)
+    go (Some k) e = (_, _, (cut_at byte s 0 k e).fields)
+    go None e = (_, _, cut_nowhere byte s 0 e)
 
 -- words that are the same are equal
 pub same_is : (s t : List ℕ) → same s t ≡ true → s ≡ t
 unfolding same
-same_is [] [] h = refl
-same_is [] (b ∷ t) h = let z : ◌≡◌ {A = ℕ} 0 1 = cc in absurd (omega arith)
-same_is (a ∷ s) [] h = let z : ◌≡◌ {A = ℕ} 0 1 = cc in absurd (omega arith)
-same_is (a ∷ s) (b ∷ t) h = go (same_is s t) (eqb a b) refl (same s t) refl h
-  where
-    go : (same s t ≡ true → s ≡ t) → (x : Bool) → eqb a b ≡ x → (y : Bool) → same s t ≡ y → x && y ≡ true → a ∷ s ≡ b ∷ t
-    go ih true e true k c = λ i. eqb-true a b e i ∷ ih k i
-    go ih true e false k c = let z : ◌≡◌ {A = ℕ} 0 1 = cc in absurd (omega arith)
-    go ih false e y k c = let z : ◌≡◌ {A = ℕ} 0 1 = cc in absurd (omega arith)
+same_is s t h = same_text s t (sym h)
 
 -- the part from a place to the end
 pub rest_part : (s : List ℕ) (from : ℕ) → take (length s - from) (drop from s) ≡ drop from s

@@ -2,7 +2,7 @@
 use mathlib.Core.Path.{◌≡◌, refl, sym, ap, subst, ◌∙◌}
 use mathlib.Core.Bool.{Bool, true, false, not, cond, ◌&&◌, ◌||◌, and-false, or-true}
 use mathlib.Core.List.{List, [], ◌∷◌, ◌++◌, append_assoc, append-nil}
-use Prim.Native.Nat.{ℕ, zero, suc, ◌+◌, ◌-◌, ◌*◌, ◌/◌, ◌%◌, ◌^◌, ◌≤◌, ◌<◌}
+use Prim.Native.Nat.{ℕ, zero, suc, ◌+◌, ◌-◌, ◌*◌, ◌/◌, ◌%◌, ◌^◌, ◌≤◌, ◌<◌, max}
 use native.Mathlib.Nat.{
   le_of_suc-le-suc,
   lt_of_lt_of_le,
@@ -10,6 +10,7 @@ use native.Mathlib.Nat.{
   pow-zero,
   pow-le-pow_left,
   pow-le-pow_right,
+  mul-le-mul,
   mul-le-mul_left,
   mod-lt,
   mod-eq_of_lt,
@@ -27,13 +28,13 @@ use native.Mathlib.Omega.{arith}
 use borrow.Author.Tests.{le-leb, eq-eqb, ne_eqb, lt-ltb, le-ltb, leb-true, ltb-true}
 use lib.Dec.{leb, ltb, eqb, lit≤}
 use lib.ListN.{length, get_or, length-append, get_or-append}
-use Rattle.text.specs.declared.Number.{Number}
+use Rattle.std.specs.Prelude.{Some, None}
 use Rattle.text.specs.Numbers.{nought, Base, is_digit, all_digits, counted, is_shaped, number_in, numeral_in, numeral, digits}
 
 -- both of two tests hold
 both : (a b : Bool) → a && b ≡ true → (a ≡ true) × (b ≡ true)
 both true b e = (refl, e)
-both false b e = let z : ◌≡◌ {A = ℕ} 0 1 = cc in absurd (omega arith)
+both false b e = cc
 
 -- the two bases
 pub decimal : Base 10
@@ -70,20 +71,12 @@ module _ (base : ℕ) where
     unfolding all_digits
     digits_not h = rw h
 
-    pub counted_past : (n : ℕ) → counted base n (b ∷ s) ≡ counted base (n * base + (b - nought)) s
-    unfolding counted
-    counted_past n = refl
-
   module _ (most : ℕ) (s : List ℕ) where
-    pub number_unshaped : is_shaped most s ≡ false → Number.Not ≡ number_in base most s
-    unfolding number_in
-    number_unshaped h = rw h
-
-    pub number_other : all_digits base s ≡ false → Number.Not ≡ number_in base most s
+    pub number_other : all_digits base s ≡ false → None ≡ number_in base most s
     unfolding number_in
     number_other h = rw (h, and-false)
 
-    pub number_made : (n : ℕ) → is_shaped most s ≡ true → all_digits base s ≡ true → counted base 0 s ≡ n → Number.Is n ≡ number_in base most s
+    pub number_made : (n : ℕ) → is_shaped most s ≡ true → all_digits base s ≡ true → counted base 0 s ≡ n → Some n ≡ number_in base most s
     unfolding number_in
     number_made n h a e = rw (h, a, e)
 
@@ -115,13 +108,19 @@ digits_other base (b ∷ s) (suc j) l h = go (is_digit base b) refl (digits_othe
 pub counted_fits : (base n i most : ℕ) → 2 ≤ base → n < base ^ i → i ≤ most → n < base ^ most
 counted_fits base n i most two h l = lt_of_lt_of_le h (pow-le-pow_right (omega (arith, two)) l)
 
+-- and fits 64 bits with a digit more
+pub counted_room : (base n d i most : ℕ) → Base base → base ^ most < 2 ^ 60 → n < base ^ i → i ≤ most → d < 10 → n * base + d < 2 ^ 64
+counted_room base n d i most b room h l low =
+    let few : n ≤ 2 ^ 60 = omega (arith, counted_fits base n i most b.two h l) in
+    let times : n * base ≤ 2 ^ 60 * 10 = mul-le-mul few b.ten in
+    omega arith
+
 -- a 0 in front of others is not shaped
 zero_first : (n d : ℕ) → d ≡ nought → eqb (suc (suc n)) 1 || not (eqb d nought) ≡ true → ⊥
 zero_first n d z h =
     let e : eqb (suc (suc n)) 1 || not (eqb d nought) ≡ false || not true = λ i. ne_eqb (suc (suc n)) 1 (λ k. omega (arith, k)) i || not (eq-eqb d nought z i) in
     let f : false ≡ true = sym e ∙ h in
-    let k : ◌≡◌ {A = ℕ} 0 1 = cc in
-    omega arith
+    cc
 
 module _ (base : ℕ) (b : Base base) where
   -- the parts of a number: its last digit, and what stands before it
@@ -227,6 +226,26 @@ module _ (base : ℕ) (b : Base base) where
           let l : n / base < base ^ suc k = (div-lt_iff_lt-mul {k = base} {x = n} {y = base ^ suc k} (omega (arith, b.two))).1 (omega (arith, h, pow-suc base (suc k))) in
           omega (arith, digits_longer n (omega (arith, p)), ih l)
 
+  -- and one from the base to the k on has more than k
+  digits_least : (k n : ℕ) → base ^ k ≤ n → suc k ≤ length (numeral base n)
+  digits_least zero n h = digits_some n
+  digits_least (suc k) n h =
+      let some : base ^ 0 ≤ base ^ k = pow-le-pow_right (omega (arith, b.two)) (omega arith) in
+      let far : base ≤ n = omega (arith, h, pow-suc base k, some, pow-zero base, mul-le-mul_left {m = 1} {n = base ^ k} base (omega (arith, some, pow-zero base))) in
+      let front : base ^ k ≤ n / base = (le-div_iff_mul-le {k = base} {x = base ^ k} {y = n} (omega (arith, b.two))).1 (omega (arith, h, pow-suc base k)) in
+      omega (arith, digits_longer n far, digits_least k (n / base) front)
+
+  -- so a number has one digit more than its logarithm, and 0 as many as 1
+  pub digits_by_logarithm : (n m k : ℕ) → m ≡ max n 1 → base ^ k ≤ m → m < base * base ^ k → k + 1 ≡ length (numeral base n)
+  digits_by_logarithm n m k e l h = go (dec_lt n 1)
+    where
+      some : k + 1 ≡ length (numeral base m)
+      some = omega (arith, digits_least k m l, digits_most k m (omega (arith, h, pow-suc base k)))
+
+      go : Dec (n < 1) → k + 1 ≡ length (numeral base n)
+      go (yes p) = some ∙ ap length (digits_one m (omega (arith, e, b.two))) ∙ sym (ap length (digits_one n (omega (arith, p, b.two))))
+      go (no p) = some ∙ ap (λ n. length (numeral base n)) (omega (arith, e, p))
+
   -- a number of 64 bits has at most 64
   pub digits_few : (n : ℕ) → n < 2 ^ 64 → length (numeral base n) ≤ 64
   digits_few n h = digits_most 63 n (lt_of_lt_of_le h (pow-le-pow_left {n = 2} {m = base} b.two 64))
@@ -258,7 +277,7 @@ module _ (base : ℕ) (b : Base base) where
       go (no p) = shaped_made (suc k) (numeral base n) (digits_some n) (digits_most k n h) (digits_first n (omega (arith, p, b.two)))
 
   -- the digits of a number are read as the number
-  pub number_digits : (k n : ℕ) → n < base ^ suc k → number_in base (suc k) (numeral base n) ≡ Number.Is n
+  pub number_digits : (k n : ℕ) → n < base ^ suc k → number_in base (suc k) (numeral base n) ≡ Some n
   number_digits k n h = sym (number_made base (suc k) (numeral base n) n (digits_shaped k n h) (digits_all n) (digits_count n))
 
   -- AND BACK: digits that follow a number are read behind its own
@@ -284,7 +303,7 @@ module _ (base : ℕ) (b : Base base) where
   -- a field that is a number is that number, written
   pub numeral_counted : (most : ℕ) (s : List ℕ) → is_shaped most s ≡ true → all_digits base s ≡ true → numeral base (counted base 0 s) ≡ s
   unfolding is_shaped counted all_digits
-  numeral_counted most [] h a = let z : ◌≡◌ {A = ℕ} 0 1 = cc in absurd (omega arith)
+  numeral_counted most [] h a = cc
   numeral_counted most (d ∷ []) h a =
       let k = digit_is base d (both (is_digit base d) true a).0 in
       let low : 0 * base + (d - nought) < base = omega (arith, k.0, k.1) in
@@ -299,14 +318,14 @@ module _ (base : ℕ) (b : Base base) where
       more_digits (0 * base + (d - nought)) (e ∷ s) high t.1 ∙ ap (◌++ (e ∷ s)) (digits_one (0 * base + (d - nought)) low ∙ ap (◌∷ []) (omega (arith, k.0)))
 
   -- so what is read as a number is its numeral
-  pub number_written : (most n : ℕ) (s : List ℕ) → number_in base most s ≡ Number.Is n → numeral base n ≡ s
+  pub number_written : (most n : ℕ) (s : List ℕ) → number_in base most s ≡ Some n → numeral base n ≡ s
   unfolding number_in
   number_written most n s e = go (is_shaped most s) refl (all_digits base s) refl e
     where
-      go : (x : Bool) → is_shaped most s ≡ x → (y : Bool) → all_digits base s ≡ y → cond (x && y) (Number.Is (counted base 0 s)) Number.Not ≡ Number.Is n → numeral base n ≡ s
+      go : (x : Bool) → is_shaped most s ≡ x → (y : Bool) → all_digits base s ≡ y → cond (x && y) (Some (counted base 0 s)) None ≡ Some n → numeral base n ≡ s
       go true h true a c = let same : counted base 0 s ≡ n = cc in ap (numeral base) (sym same) ∙ numeral_counted most s h a
-      go true h false a c = let z : ◌≡◌ {A = ℕ} 0 1 = cc in absurd (omega arith)
-      go false h y a c = let z : ◌≡◌ {A = ℕ} 0 1 = cc in absurd (omega arith)
+      go true h false a c = cc
+      go false h y a c = cc
 
   -- and is below the base to the most digits
   counted_below : (i n : ℕ) (s : List ℕ) → n < base ^ i → all_digits base s ≡ true → counted base n s < base ^ (i + length s)
@@ -319,18 +338,18 @@ module _ (base : ℕ) (b : Base base) where
       subst (λ m. counted base (n * base + (d - nought)) s < base ^ m) there
       (counted_below (i + 1) (n * base + (d - nought)) s (counted_small base n (d - nought) i h (omega (arith, k.0, k.1))) t.1)
 
-  pub number_bounded : (most n : ℕ) (s : List ℕ) → number_in base most s ≡ Number.Is n → n < base ^ most
+  pub number_bounded : (most n : ℕ) (s : List ℕ) → number_in base most s ≡ Some n → n < base ^ most
   unfolding number_in
   number_bounded most n s e = go (is_shaped most s) refl (all_digits base s) refl e
     where
-      go : (x : Bool) → is_shaped most s ≡ x → (y : Bool) → all_digits base s ≡ y → cond (x && y) (Number.Is (counted base 0 s)) Number.Not ≡ Number.Is n → n < base ^ most
+      go : (x : Bool) → is_shaped most s ≡ x → (y : Bool) → all_digits base s ≡ y → cond (x && y) (Some (counted base 0 s)) None ≡ Some n → n < base ^ most
       go true h true a c =
           let same : counted base 0 s ≡ n = cc in
           let low = counted_below 0 0 s (omega (arith, pow-zero base)) a in
           let there : 0 + length s ≡ length s = omega arith in
           subst (◌< base ^ most) same (counted_fits base (counted base 0 s) (length s) most b.two (subst (λ m. counted base 0 s < base ^ m) there low) (shaped_short most s h))
-      go true h false a c = let z : ◌≡◌ {A = ℕ} 0 1 = cc in absurd (omega arith)
-      go false h y a c = let z : ◌≡◌ {A = ℕ} 0 1 = cc in absurd (omega arith)
+      go true h false a c = cc
+      go false h y a c = cc
 
 -- a number of 64 bits has at most 20 decimal digits
 pub digits_wide : (n : ℕ) → n < 2 ^ 64 → length (digits n) ≤ 20

@@ -1,6 +1,6 @@
 -- Lines and fields, over bytes.
-use Rattle.std.specs.Prelude.{Bool, true, false, cond, ◌&&◌, List, [], ◌∷◌, ℕ, suc, eqb, drop}
-use Rattle.text.specs.declared.Found.{Found}
+use Rattle.std.specs.Prelude.{Bool, cond, List, [], ◌∷◌, ℕ, suc, eqb, drop, Option, Some, None}
+use Rattle.std.specs.Str.{bytes_eq}
 
 abbrev pub space : ℕ
 space = 32
@@ -10,18 +10,15 @@ newline = 10
 
 -- the same bytes
 unfoldable pub same : List ℕ → List ℕ → Bool
-same [] [] = true
-same [] (b ∷ t) = false
-same (a ∷ s) [] = false
-same (a ∷ s) (b ∷ t) = eqb a b && same s t
+same = bytes_eq
 
--- the first place that holds the byte, where the list begins at the place i
-unfoldable pub found_in : ℕ → ℕ → List ℕ → Found
-found_in byte i [] = Found.Nothing
-found_in byte i (b ∷ s) = cond (eqb b byte) (Found.At i) (found_in byte (suc i) s)
+-- the first place that holds the byte, if any does, where the list begins at the place i
+unfoldable pub found_in : ℕ → ℕ → List ℕ → Option ℕ
+found_in byte i [] = None
+found_in byte i (b ∷ s) = cond (eqb b byte) (Some i) (found_in byte (suc i) s)
 
 -- the first place from `from` on that holds a newline
-abbrev pub line_end : List ℕ → ℕ → Found
+abbrev pub line_end : List ℕ → ℕ → Option ℕ
 line_end s from = found_in newline from (drop from s)
 
 -- a byte more at the front of the first part

@@ -1,6 +1,5 @@
 -- Numbers in a base from 2 to 10, over bytes: what a field counts, and how a number is written. Decimal numbers, and binary ones.
-use Rattle.std.specs.Prelude.{Bool, true, false, not, cond, ◌&&◌, ◌||◌, List, [], ◌∷◌, ◌++◌, ℕ, zero, suc, ◌+◌, ◌-◌, ◌*◌, ◌/◌, ◌%◌, ◌≤◌, leb, ltb, eqb, length, get_or}
-use Rattle.text.specs.declared.Number.{Number}
+use Rattle.std.specs.Prelude.{Bool, true, false, not, cond, ◌&&◌, ◌||◌, List, [], ◌∷◌, ◌++◌, ℕ, zero, suc, ◌+◌, ◌-◌, ◌*◌, ◌/◌, ◌%◌, ◌≤◌, leb, ltb, eqb, length, get_or, Option, Some, None}
 
 -- the digit 0; the others follow it
 abbrev pub nought : ℕ
@@ -35,14 +34,14 @@ counted base n (b ∷ s) = counted base (n * base + (b - nought)) s
 unfoldable pub is_shaped : ℕ → List ℕ → Bool
 is_shaped most s = leb 1 (length s) && (leb (length s) most && (eqb (length s) 1 || not (eqb (get_or s 0 0) nought)))
 
--- a field as a number
-unfoldable pub number_in : ℕ → ℕ → List ℕ → Number
-number_in base most s = cond (is_shaped most s && all_digits base s) (Number.Is (counted base 0 s)) Number.Not
+-- a field as a number, if it is one
+unfoldable pub number_in : ℕ → ℕ → List ℕ → Option ℕ
+number_in base most s = cond (is_shaped most s && all_digits base s) (Some (counted base 0 s)) None
 
-abbrev pub number_of : List ℕ → Number
+abbrev pub number_of : List ℕ → Option ℕ
 number_of = number_in 10 most_digits
 
-abbrev pub bits_of : List ℕ → Number
+abbrev pub bits_of : List ℕ → Option ℕ
 bits_of = number_in 2 most_bits
 
 -- the digits of n, where there is room for k

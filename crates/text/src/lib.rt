@@ -8,128 +8,78 @@ ghost use Rattle.text.specs.Fields.{same, found_in, line_end};
 
 pub mod put;
 
-// Where a byte stands, or that it stands nowhere.
-#[derive(Clone, Copy)]
-pub enum Found {
-    At(usize),
-    Nothing,
-}
+// The most digits of a decimal number: those of the clock's last instant.
+const DIGITS: usize = 13;
+// The most digits of a binary number.
+const BITS: usize = 32;
 
-// What a field is as a number.
-#[derive(Clone, Copy)]
-pub enum Number {
-    Is(u64),
-    Not,
-}
-
-impl Number {
-    // The most digits of a decimal number: those of the clock's last instant.
-    const DIGITS: usize = 13;
-    // The most digits of a binary number.
-    const BITS: usize = 32;
-}
-
-// The first place from `from` on that holds the byte.
-pub fn find(s: &[u8], from: usize, byte: u8) -> Found
+// The first place from `from` on that holds the byte, if any does.
+pub fn find(s: &[u8], from: usize, byte: u8) -> Option<usize>
     ensures { result ≡ found_in byte from (drop from s.now) }
 {
-    let mut i = from;
-    while i < s.len() {
-        if s[i] == byte {
-            return Found::At(i);
-        }
-        i += 1;
-    }
-    Found::Nothing
+    let place = s.get(from..)?.iter().position(|b| *b == byte)?;
+    Some(from + place)
 }
 
-// The first place from `from` on that holds a newline.
-pub fn line_end(s: &[u8], from: usize) -> Found
+// The first place from `from` on that holds a newline, if any does.
+pub fn line_end(s: &[u8], from: usize) -> Option<usize>
     ensures { result ≡ line_end s.now from }
 {
     find(s, from, b'\n')
 }
 
+#[tactic(auto, unfolding(crate::specs::Numbers::is_digit))]
 fn is_digit(b: u8, base: u8) -> bool
     requires { Base base }
     ensures { result ≡ is_digit base b }
 {
-    if b < b'0' {
-        return false;
-    }
-    b < b'0' + base
+    b'0' <= b && b < b'0' + base
 }
 
 // From 1 byte to the most, and no 0 in front of others.
+#[tactic(auto, unfolding(crate::specs::Numbers::is_shaped))]
 fn is_shaped(s: &[u8], most: usize) -> bool
     ensures { result ≡ is_shaped most s.now }
 {
-    if s.len() < 1 {
-        return false;
-    }
-    if most < s.len() {
-        return false;
-    }
-    if s.len() == 1 {
-        return true;
-    }
-    s[0] != b'0'
+    !s.is_empty() && s.len() <= most && (s.len() == 1 || s[0] != b'0')
 }
 
-// A number of so many digits in a base from 2 to 10.
-fn read_in(s: &[u8], base: u8, most: usize) -> Number
+// The field as a number of so many digits in a base from 2 to 10, if it is one.
+#[tactic(auto, using(crate::proofs::Numbers::counted_room, crate::proofs::Numbers::shaped_short), unfolding(crate::specs::Numbers::is_digit, crate::specs::Numbers::all_digits, crate::specs::Numbers::counted, crate::specs::Numbers::number_in))]
+fn read_in(s: &[u8], base: u8, most: usize) -> Option<u64>
     requires { Base base × (base ^ most < 2 ^ 60) }
     ensures { result ≡ number_in base most s.now }
 {
     if !is_shaped(s, most) {
-        return Number::Not;
+        return None;
     }
-    let times = wide(base);
-    let mut n: u64 = 0;
-    let mut i = 0;
-    while i < s.len() {
-        let b = s[i];
+    let mut n = 0;
+    for &b in s {
         if !is_digit(b, base) {
-            return Number::Not;
+            return None;
         }
-        n = n * times + wide(b - b'0');
-        i += 1;
+        n = n * u64::from(base) + u64::from(b - b'0');
     }
-    Number::Is(n)
+    Some(n)
 }
 
 // In decimal.
-pub fn read_number(s: &[u8]) -> Number
+pub fn read_number(s: &[u8]) -> Option<u64>
     ensures { result ≡ number_of s.now }
 {
-    read_in(s, 10, Number::DIGITS)
+    read_in(s, 10, DIGITS)
 }
 
 // In binary.
-pub fn read_bits(s: &[u8]) -> Number
+pub fn read_bits(s: &[u8]) -> Option<u64>
     ensures { result ≡ bits_of s.now }
 {
-    read_in(s, 2, Number::BITS)
+    read_in(s, 2, BITS)
 }
 
-fn wide(b: u8) -> u64
-    ensures { result ≡ b }
-{
-    b as u64
-}
-
+#[tactic(auto, unfolding(crate::specs::Fields::same))]
 pub fn is_word(s: &[u8], word: &[u8]) -> bool
     ensures { result ≡ same s.now word.now }
 {
-    if s.len() != word.len() {
-        return false;
-    }
-    let mut i = 0;
-    while i < s.len() {
-        if s[i] != word[i] {
-            return false;
-        }
-        i += 1;
-    }
-    true
+    s == word
 }

@@ -15,14 +15,8 @@ pub fn text(out: &mut [u8], at: usize, bytes: &[u8]) -> usize
     requires { at + length bytes.now ≤ length out.old }
     ensures { Put out.old out.new at result bytes.now }
 {
-    let mut to = at;
-    let mut i = 0;
-    while i < bytes.len() {
-        out[to] = bytes[i];
-        to += 1;
-        i += 1;
-    }
-    to
+    out[at..at + bytes.len()].copy_from_slice(bytes);
+    at + bytes.len()
 }
 
 // In a base from 2 to 10.
@@ -30,7 +24,7 @@ fn number_in(out: &mut [u8], at: usize, n: u64, base: u8) -> usize
     requires { Base base × (at + length (numeral base n) ≤ length out.old) }
     ensures { Put out.old out.new at result (numeral base n) }
 {
-    let times = base as u64;
+    let times = u64::from(base);
     let last = b'0' + (n % times) as u8;
     if n < times {
         return byte(out, at, last);
@@ -48,6 +42,7 @@ pub fn number(out: &mut [u8], at: usize, n: u64) -> usize
 }
 
 // A number between two words.
+#[tactic(auto, using(crate::proofs::Numbers::digits_wide, crate::proofs::Texts::put_length))]
 pub fn worded(out: &mut [u8], at: usize, front: &[u8], n: u64, back: &[u8]) -> usize
     requires { at + (length front.now + (20 + length back.now)) ≤ length out.old }
     ensures { Put out.old out.new at result (front.now ++ (digits n ++ back.now)) }
@@ -70,14 +65,7 @@ fn width_in(n: u64, base: u8) -> usize
     requires { Base base }
     ensures { (result ≡ length (numeral base n)) × (result ≤ 64) }
 {
-    let times = base as u64;
-    let mut rest = n;
-    let mut width = 1;
-    while times <= rest {
-        rest /= times;
-        width += 1;
-    }
-    width
+    n.max(1).ilog(u64::from(base)) as usize + 1
 }
 
 // How many bytes a number takes in decimal.

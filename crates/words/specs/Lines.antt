@@ -1,10 +1,6 @@
 -- What a line of the rehearsal says, over its bytes without the newline.
-use Rattle.std.specs.Prelude.{cond, List, [], ◌∷◌, ℕ, leb}
+use Rattle.std.specs.Prelude.{cond, List, [], ◌∷◌, ℕ, leb, Option, Some, None}
 use Prim.Native.String.{String}
-use Rattle.text.specs.declared.Number.{Number}
-use Rattle.words.specs.declared.Small.{Small}
-use Rattle.words.specs.declared.Three.{Three}
-use Rattle.words.specs.declared.Four.{Four}
 use Rattle.words.specs.declared.Word.{Word}
 use Rattle.words.specs.declared.Line.{Line}
 use Rattle.text.specs.Text.{spelt}
@@ -36,42 +32,42 @@ abbrev pub word_of : List ℕ → Word
 word_of f = word_in words f
 
 -- the number, where there is one field and it is a number
-unfoldable pub one_of : List (List ℕ) → Number
-one_of [] = Number.Not
+unfoldable pub one_of : List (List ℕ) → Option ℕ
+one_of [] = None
 one_of (f ∷ []) = number_of f
-one_of (f ∷ g ∷ fs) = Number.Not
+one_of (f ∷ g ∷ fs) = None
 
-abbrev pub all_three : Small → Small → Small → Three
-all_three (Small.Is a) (Small.Is b) (Small.Is c) = Three.Are a b c
-all_three (Small.Is a) (Small.Is b) Small.Not = Three.Not
-all_three (Small.Is a) Small.Not c = Three.Not
-all_three Small.Not b c = Three.Not
+abbrev pub all_three : Option ℕ → Option ℕ → Option ℕ → Option (ℕ × ℕ × ℕ)
+all_three (Some a) (Some b) (Some c) = Some (a, b, c)
+all_three (Some a) (Some b) None = None
+all_three (Some a) None c = None
+all_three None b c = None
 
 -- the three numbers, where there are three fields and each is a number
-unfoldable pub three_of : List (List ℕ) → Three
-three_of [] = Three.Not
-three_of (f ∷ []) = Three.Not
+unfoldable pub three_of : List (List ℕ) → Option (ℕ × ℕ × ℕ)
+three_of [] = None
+three_of (f ∷ []) = None
 three_of (f ∷ g ∷ fs) = all_three (small_of (number_of f)) (small_of (number_of g)) (small_of (one_of fs))
 
 -- one number more in front of three
-abbrev pub and_three : Small → Three → Four
-and_three (Small.Is a) (Three.Are b c d) = Four.Are a b c d
-and_three (Small.Is a) Three.Not = Four.Not
-and_three Small.Not t = Four.Not
+abbrev pub and_three : Option ℕ → Option (ℕ × ℕ × ℕ) → Option (ℕ × ℕ × ℕ × ℕ)
+and_three (Some a) (Some (b, c, d)) = Some (a, b, c, d)
+and_three (Some a) None = None
+and_three None t = None
 
 -- the four numbers, where there are four fields and each is a number
-unfoldable pub four_of : List (List ℕ) → Four
-four_of [] = Four.Not
+unfoldable pub four_of : List (List ℕ) → Option (ℕ × ℕ × ℕ × ℕ)
+four_of [] = None
 four_of (f ∷ fs) = and_three (small_of (number_of f)) (three_of fs)
 
 abbrev pub run_of : ℕ → Line
 run_of n = cond (leb n most_run) (Line.Run n) Line.Bad
 
 -- an opening by its instant and its charge, bad without either
-abbrev pub going : Number → Small → Line
-going (Number.Is start) (Small.Is charge) = Line.Go start charge
-going (Number.Is start) Small.Not = Line.Bad
-going Number.Not c = Line.Bad
+abbrev pub going : Option ℕ → Option ℕ → Line
+going (Some start) (Some charge) = Line.Go start charge
+going (Some start) None = Line.Bad
+going None c = Line.Bad
 
 -- what two fields say of an opening
 unfoldable pub go_of : List (List ℕ) → Line
@@ -79,17 +75,17 @@ go_of [] = Line.Bad
 go_of (f ∷ fs) = going (number_of f) (small_of (one_of fs))
 
 -- a line of one number, bad without it
-abbrev pub with_one : (ℕ → Line) → Small → Line
-with_one f (Small.Is n) = f n
-with_one f Small.Not = Line.Bad
+abbrev pub with_one : (ℕ → Line) → Option ℕ → Line
+with_one f (Some n) = f n
+with_one f None = Line.Bad
 
-abbrev pub with_four : (ℕ → ℕ → ℕ → ℕ → Line) → Four → Line
-with_four f (Four.Are a b c d) = f a b c d
-with_four f Four.Not = Line.Bad
+abbrev pub with_four : (ℕ → ℕ → ℕ → ℕ → Line) → Option (ℕ × ℕ × ℕ × ℕ) → Line
+with_four f (Some (a, b, c, d)) = f a b c d
+with_four f None = Line.Bad
 
-abbrev pub with_three : (ℕ → ℕ → ℕ → Line) → Three → Line
-with_three f (Three.Are a b c) = f a b c
-with_three f Three.Not = Line.Bad
+abbrev pub with_three : (ℕ → ℕ → ℕ → Line) → Option (ℕ × ℕ × ℕ) → Line
+with_three f (Some (a, b, c)) = f a b c
+with_three f None = Line.Bad
 
 -- what a word says with the fields after it
 unfoldable pub said_of : Word → List (List ℕ) → Line

@@ -2,35 +2,12 @@
 // It must not know feeds, jobs, clocks, the desk's limits, or where in a rehearsal a line stands.
 #![tactic(auto)]
 
-ghost use Rattle.std.specs.Prelude.{◌≡◌};
+ghost use Rattle.std.specs.Prelude.{◌≡◌, [], ◌∷◌, MatchOption, unwrap_or};
 ghost use Rattle.text.specs.Numbers.{number_of};
 ghost use Rattle.text.specs.Fields.{fields_of};
 ghost use Rattle.words.specs.Small.{small_of};
-ghost use Rattle.words.specs.Lines.{word_of, all_three, three_of, and_three, four_of, going, go_of, run_of, said_of};
+ghost use Rattle.words.specs.Lines.{word_of, three_of, four_of, said_of};
 ghost use Rattle.words.specs.Lines.{line_of};
-
-use text::{Found, Number};
-
-// What a field is as a number that is not too large for its place.
-#[derive(Clone, Copy)]
-enum Small {
-    Is(u32),
-    Not,
-}
-
-// What the fields after a word are as three numbers.
-#[derive(Clone, Copy)]
-enum Three {
-    Are(u32, u32, u32),
-    Not,
-}
-
-// What the fields after a word are as four numbers.
-#[derive(Clone, Copy)]
-enum Four {
-    Are(u32, u32, u32, u32),
-    Not,
-}
 
 // The first field of a line.
 #[derive(Clone, Copy)]
@@ -56,179 +33,90 @@ pub enum Line {
     Bad,
 }
 
-impl Small {
-    // The rehearsal's own limit on a number's size, the opening instant apart.
-    const MOST: u64 = 0xFFFF_FFFF;
-}
-
 impl Line {
     // The rehearsal's own limit on the ticks of one run.
     pub const RUN: u32 = 4096;
 }
 
-fn read_small(s: &[u8]) -> Small
+// What stands before the first space, and what after it.
+#[tactic(auto, using(crate::proofs::Lines::cutting))]
+fn cut(s: &[u8]) -> Option<(&[u8], &[u8])>
+    ensures { MatchOption result (fields_of s.now ≡ s.now ∷ []) (λ p. fields_of s.now ≡ p.0.now ∷ fields_of p.1.now) }
+{
+    let end = text::find(s, 0, b' ')?;
+    Some((&s[..end], &s[end + 1..]))
+}
+
+// Every number but the opening instant fits 32 bits.
+#[tactic(auto, unfolding(crate::specs::Small::small_of))]
+fn read_small(s: &[u8]) -> Option<u32>
     ensures { result ≡ small_of (number_of s.now) }
 {
-    let Number::Is(n) = text::read_number(s) else {
-        return Small::Not;
-    };
-    if n <= Small::MOST {
-        Small::Is(n as u32)
-    } else {
-        Small::Not
-    }
+    u32::try_from(text::read_number(s)?).ok()
 }
 
-fn all_three(a: Small, b: Small, c: Small) -> Three
-    ensures { result ≡ all_three a b c }
-{
-    let Small::Is(x) = a else {
-        return Three::Not;
-    };
-    let Small::Is(y) = b else {
-        return Three::Not;
-    };
-    let Small::Is(z) = c else {
-        return Three::Not;
-    };
-    Three::Are(x, y, z)
-}
-
-fn read_three(s: &[u8]) -> Three
+#[tactic(auto, using(crate::proofs::Lines::one_number, crate::proofs::Lines::third_missing), unfolding(crate::specs::Lines::three_of))]
+fn read_three(s: &[u8]) -> Option<(u32, u32, u32)>
     ensures { result ≡ three_of (fields_of s.now) }
 {
-    let Found::At(first) = text::find(s, 0, b' ') else {
-        return Three::Not;
-    };
-    let from = first + 1;
-    let Found::At(second) = text::find(s, from, b' ') else {
-        return Three::Not;
-    };
-    let last = second + 1;
-    all_three(
-        read_small(&s[..first]),
-        read_small(&s[from..second]),
-        read_small(&s[last..]),
-    )
+    let (first, others) = cut(s)?;
+    let (second, third) = cut(others)?;
+    Some((read_small(first)?, read_small(second)?, read_small(third)?))
 }
 
-// One number more in front of three.
-fn and_three(first: Small, others: Three) -> Four
-    ensures { result ≡ and_three first others }
-{
-    let Small::Is(a) = first else {
-        return Four::Not;
-    };
-    let Three::Are(b, c, d) = others else {
-        return Four::Not;
-    };
-    Four::Are(a, b, c, d)
-}
-
-fn read_four(s: &[u8]) -> Four
+#[tactic(auto, using(crate::proofs::Lines::others_missing), unfolding(crate::specs::Lines::four_of))]
+fn read_four(s: &[u8]) -> Option<(u32, u32, u32, u32)>
     ensures { result ≡ four_of (fields_of s.now) }
 {
-    let Found::At(end) = text::find(s, 0, b' ') else {
-        return Four::Not;
-    };
-    let last = end + 1;
-    and_three(read_small(&s[..end]), read_three(&s[last..]))
+    let (first, others) = cut(s)?;
+    let a = read_small(first)?;
+    let (b, c, d) = read_three(others)?;
+    Some((a, b, c, d))
 }
 
-// An opening by its instant and its charge.
-fn going(start: Number, charge: Small) -> Line
-    ensures { result ≡ going start charge }
-{
-    let Number::Is(at) = start else {
-        return Line::Bad;
-    };
-    let Small::Is(ticks) = charge else {
-        return Line::Bad;
-    };
-    Line::Go(at, ticks)
-}
-
-fn read_go(s: &[u8]) -> Line
-    ensures { result ≡ go_of (fields_of s.now) }
-{
-    let Found::At(end) = text::find(s, 0, b' ') else {
-        return Line::Bad;
-    };
-    let last = end + 1;
-    going(text::read_number(&s[..end]), read_small(&s[last..]))
-}
-
+#[tactic(auto, using(crate::proofs::Lines::spelling), unfolding(crate::specs::Lines::word_in))]
 fn read_word(s: &[u8]) -> Word
     ensures { result ≡ word_of s.now }
 {
-    if text::is_word(s, b"feed") {
-        return Word::Feed;
+    match s {
+        b"feed" => Word::Feed,
+        b"go" => Word::Go,
+        b"ask" => Word::Ask,
+        b"end" => Word::End,
+        b"rest" => Word::Rest,
+        b"run" => Word::Run,
+        _ => Word::Other,
     }
-    if text::is_word(s, b"go") {
-        return Word::Go;
-    }
-    if text::is_word(s, b"ask") {
-        return Word::Ask;
-    }
-    if text::is_word(s, b"end") {
-        return Word::End;
-    }
-    if text::is_word(s, b"rest") {
-        return Word::Rest;
-    }
-    if text::is_word(s, b"run") {
-        return Word::Run;
-    }
-    Word::Other
 }
 
-// What the word says with the fields after it.
-fn read_fields(word: Word, s: &[u8]) -> Line
-    ensures { result ≡ said_of word (fields_of s.now) }
+// What the word says with the fields after it, unless it is bad.
+#[tactic(auto, using(crate::proofs::Lines::one_number, crate::proofs::Lines::charge_missing), unfolding(crate::specs::Lines::said_of, crate::specs::Lines::go_of))]
+fn read_fields(word: Word, s: &[u8]) -> Option<Line>
+    ensures { unwrap_or result Line.Bad ≡ said_of word (fields_of s.now) }
 {
     match word {
-        Word::Feed => match read_four(s) {
-            Four::Are(a, b, c, d) => Line::Feed(a, b, c, d),
-            Four::Not => Line::Bad,
-        },
-        Word::Go => read_go(s),
-        Word::Ask => match read_three(s) {
-            Three::Are(a, b, c) => Line::Ask(a, b, c),
-            Three::Not => Line::Bad,
-        },
-        Word::End => match read_small(s) {
-            Small::Is(n) => Line::End(n),
-            Small::Not => Line::Bad,
-        },
-        Word::Rest => match read_small(s) {
-            Small::Is(n) => Line::Rest(n),
-            Small::Not => Line::Bad,
-        },
-        Word::Run => match read_small(s) {
-            Small::Is(n) => run(n),
-            Small::Not => Line::Bad,
-        },
-        Word::Other => Line::Bad,
-    }
-}
-
-fn run(n: u32) -> Line
-    ensures { result ≡ run_of n }
-{
-    if n <= Line::RUN {
-        Line::Run(n)
-    } else {
-        Line::Bad
+        Word::Feed => read_four(s).map(|(a, b, c, d)| Line::Feed(a, b, c, d)),
+        Word::Go => {
+            let (start, charge) = cut(s)?;
+            Some(Line::Go(text::read_number(start)?, read_small(charge)?))
+        }
+        Word::Ask => read_three(s).map(|(a, b, c)| Line::Ask(a, b, c)),
+        Word::End => read_small(s).map(Line::End),
+        Word::Rest => read_small(s).map(Line::Rest),
+        Word::Run => read_small(s)
+            .filter(|ticks| *ticks <= Line::RUN)
+            .map(Line::Run),
+        Word::Other => None,
     }
 }
 
 // What a line says; the newline at its end is not handed in.
+#[tactic(auto, using(crate::proofs::Lines::said_alone), unfolding(crate::specs::Lines::line_of, crate::specs::Lines::meaning_of))]
 pub fn read_line(s: &[u8]) -> Line
     ensures { result ≡ line_of s.now }
 {
-    let Found::At(end) = text::find(s, 0, b' ') else {
+    let Some((word, fields)) = cut(s) else {
         return Line::Bad;
     };
-    let from = end + 1;
-    read_fields(read_word(&s[..end]), &s[from..])
+    read_fields(read_word(word), fields).unwrap_or(Line::Bad)
 }
