@@ -8,8 +8,8 @@ use borrow.Author.Tests.{eqb-true}
 use Rattle.lists.proofs.Tests.{both}
 use lib.ListN.{length}
 use Rattle.answers.specs.declared.Refusal.{Refusal}
-use Rattle.answers.specs.declared.Verdict.{Verdict}
-use Rattle.answers.specs.declared.Verdict.TheVariants.{Yes, No}
+use Rattle.answers.specs.Verdicts.{Verdict}
+use Rattle.std.specs.Prelude.{Ok, Err}
 use Rattle.answers.specs.Answers.{on_yes}
 use Rattle.desk.specs.declared.Desk.{Desk}
 use Rattle.waveform.specs.declared.cursor.Cursor.{Cursor}
@@ -38,11 +38,11 @@ went_by d c p v =
     }
 
 module _ (size most : ℕ) (d : Desk) (c : Cursor) where
-  pub went_no : (r : Refusal) → go_answer size most d c ≡ No r → (refused_went d c r ≡ went_of size most d c) × ([] ≡ went_bytes size most d c)
+  pub went_no : (r : Refusal) → go_answer size most d c ≡ Err r → (refused_went d c r ≡ went_of size most d c) × ([] ≡ went_bytes size most d c)
   unfolding went_of went_bytes
   went_no r e = let p = part_of size most d c in (λ i. went_by d c p (sym e i), λ i. on_yes (sym e i) (bytes_of p.lines) [])
 
-  pub went_yes : go_answer size most d c ≡ Yes
-      → (went_by d c (part_of size most d c) Yes ≡ went_of size most d c) × (bytes_of (part_of size most d c).lines ≡ went_bytes size most d c)
+  pub went_yes : go_answer size most d c ≡ Ok tt
+      → (went_by d c (part_of size most d c) (Ok tt) ≡ went_of size most d c) × (bytes_of (part_of size most d c).lines ≡ went_bytes size most d c)
   unfolding went_of went_bytes
   went_yes e = let p = part_of size most d c in (λ i. went_by d c p (sym e i), λ i. on_yes (sym e i) (bytes_of p.lines) [])

@@ -10,7 +10,7 @@ use lib.ListN.{length, length-append}
 use Rattle.lists.specs.Lists.{Each}
 use Rattle.lists.proofs.Tests.{both_made}
 use Rattle.answers.specs.declared.Who.{Who}
-use Rattle.answers.specs.declared.Verdict.TheVariants.{Yes}
+use Rattle.std.specs.Prelude.{Ok}
 use Rattle.answers.proofs.Answers.{goes_on_lem, no_line}
 use Rattle.desk.specs.declared.Desk.{Desk}
 use Rattle.desk.specs.State.{in_order}
@@ -77,7 +77,7 @@ part_long size most d c = carried_long size most (filled size (part d c [] [])) 
 module _ (t : ℕ) (w : Written) (k : Live t w) (size : ℕ) (wide : longest ≤ size) where
   -- GOING ON at a desk in order whose clock is the run's is not refused
   pub going_on_gets_on : (most : ℕ) (d : Desk) → in_order d ≡ true → w.cursor.clock ≡ clock_of d → Each Narrow (w.names ++ (part_of size most d w.cursor).names)
-      → go_answer size most d w.cursor ≡ Yes
+      → go_answer size most d w.cursor ≡ Ok tt
   unfolding ordered_at stuck
   going_on_gets_on most d order clock narrow =
       let p = part_of size most d w.cursor in
@@ -97,7 +97,7 @@ module _ (t : ℕ) (w : Written) (k : Live t w) (size : ℕ) (wide : longest ≤
               absurd (omega (arith, short, fits, wide))
 
   -- CLOSING is not refused
-  pub closing_gets_on : Each Narrow w.names → (closed_of size w.cursor).verdict ≡ Yes
+  pub closing_gets_on : Each Narrow w.names → (closed_of size w.cursor).verdict ≡ Ok tt
   unfolding closed_of
   closing_gets_on narrow =
       let number : w.cursor.number ≤ most_number = subst (λ n. n ≤ most_number) (sym k.tells.job) (last_narrow w.names narrow) in

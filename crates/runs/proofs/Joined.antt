@@ -15,23 +15,23 @@ use Rattle.ticks.specs.Ticks.{last_instant}
 use Rattle.feeds.specs.Feeds.{most_feeds}
 use Rattle.answers.specs.declared.Who.{Who}
 use Rattle.answers.specs.declared.Who.TheVariants.{Job, Feed, Idle}
-use Rattle.answers.specs.declared.Verdict.{Verdict}
-use Rattle.answers.specs.declared.Verdict.TheVariants.{Yes, No}
-use Rattle.answers.specs.Answers.{first_of, is_yes, on_yes}
-use Rattle.answers.proofs.Answers.{is_yes_lem, yes_first}
+use Rattle.answers.specs.Verdicts.{Verdict}
+use Rattle.std.specs.Prelude.{Ok, Err}
+use Rattle.std.specs.Result.{result_unwrap_or}
+use Rattle.answers.specs.Answers.{first_of, is_yes, on_yes, yes_with, verdict_of}
+use Rattle.answers.proofs.Answers.{is_yes_lem, yes_first, told_verdict}
 use Rattle.desk.specs.declared.Desk.{Desk}
 use Rattle.ledger.specs.State as ledger
 use Rattle.desk.specs.State.{in_order}
-use Rattle.desk.specs.Calls.{step_of}
+use Rattle.desk.specs.Calls.{disorder, step_of}
 use Rattle.desk.specs.Named.{Named}
 use Rattle.desk.proofs.Named.{step_clock, step_in_time, step_names}
 use Rattle.waveform.specs.declared.Token.{Token}
 use Rattle.waveform.specs.declared.cursor.Cursor.{Cursor}
-use Rattle.waveform.specs.declared.Outcome.TheVariants.{Well}
 use Rattle.waveform.specs.declared.State.TheVariants.{Heading}
 use Rattle.waveform.specs.Runs.{job_wire, feed_wire, most_number, Nameable, told, Run}
 use Rattle.waveform.specs.Stretches.{stretches, spread}
-use Rattle.waveform.specs.Texts.{text_of, judged}
+use Rattle.waveform.specs.Texts.{text_of, judged, Well}
 use Rattle.waveform.specs.Cursors.{any_due, any_value, begun, stepped}
 use Rattle.waveform.specs.Order.{ordered, none, is_none}
 use Rattle.waveform.specs.Parts.{bytes_of, wrote_all, due_fitting, closing_lines, closing_fitting, after_closing, close_stops, closed_of, closing_bytes}
@@ -90,7 +90,7 @@ module _ {t : ℕ} {ws : List Who} {ls : List Token} where
         each = k.each;
       }
 
-  step_on_lem : (p : Part) → On t ws ls p → any_due p.cursor.due ≡ false → (step_of p.desk).verdict ≡ Yes → On t ws ls (step_on p (step_of p.desk))
+  step_on_lem : (p : Part) → On t ws ls p → any_due p.cursor.due ≡ false → (step_of p.desk).verdict ≡ Ok tt → On t ws ls (step_on p (step_of p.desk))
   step_on_lem p k still taken =
       let x = step_of p.desk in
       let time : p.cursor.clock < last_instant = subst (λ n. n < last_instant) (sym k.clock) (step_in_time p.desk taken) in
@@ -161,8 +161,8 @@ module _ (t : ℕ) (w : Written) where
     where
       by_answer : (v : Verdict) → go_answer size most d w.cursor ≡ v
           → Live t (record { cursor = on_yes v (part_of size most d w.cursor).cursor w.cursor; names = w.names ++ on_yes v (part_of size most d w.cursor).names []; text = w.text ++ on_yes v (bytes_of (part_of size most d w.cursor).lines) [] })
-      by_answer (No r) e = subst (Live t) (same_after refl (sym (append-nil w.names)) (sym (append-nil w.text))) k
-      by_answer Yes e =
+      by_answer (Err r) e = subst (Live t) (same_after refl (sym (append-nil w.names)) (sym (append-nil w.text))) k
+      by_answer (Ok tt) e =
           let p = part_of size most d w.cursor in
           let stand : not (ordered_at (clock_of d) w.cursor) ≡ false = (yes_first _ _ (yes_first _ _ e).1).0 in
           let g = part_on size most d w.cursor k.tells (at_clock d w.cursor stand) in
@@ -179,10 +179,10 @@ module _ (t : ℕ) (w : Written) where
   close_live size k = by_answer (first_of (close_stops size w.cursor)) refl
     where
       by_answer : (v : Verdict) → first_of (close_stops size w.cursor) ≡ v → Live t (closed_as size w v) ⊎ Over t (closed_as size w v)
-      by_answer (No r) e = inl (subst (Live t) (same_after refl refl (sym (append-nil w.text))) k)
-      by_answer Yes e = either (closes_either size w.cursor (ordered_live w.cursor k.tells.order))
+      by_answer (Err r) e = inl (subst (Live t) (same_after refl refl (sym (append-nil w.text))) k)
+      by_answer (Ok tt) e = either (closes_either size w.cursor (ordered_live w.cursor k.tells.order))
         where
-          either : Closes size w.cursor (due_fitting size w.cursor) (wrote_all (due_fitting size w.cursor) w.cursor) ⊎ Closes size w.cursor (closing_lines w.cursor) none → Live t (closed_as size w Yes) ⊎ Over t (closed_as size w Yes)
+          either : Closes size w.cursor (due_fitting size w.cursor) (wrote_all (due_fitting size w.cursor) w.cursor) ⊎ Closes size w.cursor (closing_lines w.cursor) none → Live t (closed_as size w (Ok tt)) ⊎ Over t (closed_as size w (Ok tt))
           either (inl q) =
               let fit = due_fitting size w.cursor in
               inl
@@ -218,8 +218,8 @@ over_closed t size w o = by_answer (first_of (close_stops size w.cursor))
     q = closes_none size w.cursor (ap is_none o.cursor ∙ none_is_none)
 
     by_answer : (v : Verdict) → Over t (closed_as size w v)
-    by_answer (No r) = record { cursor = o.cursor; text = append-nil w.text ∙ o.text; each = o.each; within = o.within }
-    by_answer Yes = record { cursor = q.cursor; text = ap (λ ls. w.text ++ bytes_of ls) q.lines ∙ append-nil w.text ∙ o.text; each = o.each; within = o.within }
+    by_answer (Err r) = record { cursor = o.cursor; text = append-nil w.text ∙ o.text; each = o.each; within = o.within }
+    by_answer (Ok tt) = record { cursor = q.cursor; text = ap (λ ls. w.text ++ bytes_of ls) q.lines ∙ append-nil w.text ∙ o.text; each = o.each; within = o.within }
 
 -- A CLOSED RUN STAYS AS IT IS
 over_stays : (t : ℕ) (k : Call) (w : Written) → Over t w → Over t (after_call k w)
@@ -228,8 +228,8 @@ over_stays t (go_on size most d) w o = by_answer (go_answer size most d w.cursor
   where
     by_answer : (v : Verdict) → go_answer size most d w.cursor ≡ v
         → Over t (record { cursor = on_yes v (part_of size most d w.cursor).cursor w.cursor; names = w.names ++ on_yes v (part_of size most d w.cursor).names []; text = w.text ++ on_yes v (bytes_of (part_of size most d w.cursor).lines) [] })
-    by_answer (No r) e = subst (Over t) (same_after t w refl (sym (append-nil w.names)) (sym (append-nil w.text))) o
-    by_answer Yes e =
+    by_answer (Err r) e = subst (Over t) (same_after t w refl (sym (append-nil w.names)) (sym (append-nil w.text))) o
+    by_answer (Ok tt) e =
         let stand : not (ordered_at (clock_of d) w.cursor) ≡ false = (yes_first _ _ (yes_first _ _ e).1).0 in
         absurd (none_disordered (clock_of d) (subst (λ c. not (ordered_at (clock_of d) c) ≡ false) o.cursor stand))
 over_stays t (close size) w o = over_closed t size w o
@@ -240,12 +240,13 @@ unfolding in_order ledger.in_order
 in_time_lem d h = leb-true _ _ (all_of_lem _ (all_of_lem _ h).1.1.0).0
 
 -- OVER ANY CALLS from the beginning of a run on
-begun_live : (d : Desk) → (begun_of d).verdict ≡ Yes → Live (clock_of d) (begun_at d)
+begun_live : (d : Desk) → verdict_of (begun_of d) ≡ Ok tt → Live (clock_of d) (begun_at d)
 unfolding begun_of bytes_of
 begun_live d e =
     let t = clock_of d in
-    subst (λ v. Live t (record { cursor = on_yes v (begun t) none; names = []; text = [] })) (sym e)
-    (record { lines = []; text = refl; tells = tells_begun t (in_time_lem d (not-false _ (yes_first _ _ e).0)); each = tt })
+    let says : first_of (disorder d ∷ []) ≡ Ok tt = sym (told_verdict (first_of (disorder d ∷ [])) (begun t)) ∙ e in
+    subst (λ v. Live t (record { cursor = result_unwrap_or (yes_with v (begun t)) none; names = []; text = [] })) (sym says)
+    (record { lines = []; text = refl; tells = tells_begun t (in_time_lem d (not-false _ (yes_first _ _ says).0)); each = tt })
 
 calls_on : (t : ℕ) (ks : List Call) (w : Written) → Live t w ⊎ Over t w → Live t (after_calls ks w) ⊎ Over t (after_calls ks w)
 calls_on t [] w h = h
@@ -253,11 +254,11 @@ calls_on t (go_on size most d ∷ ks) w (inl k) = calls_on t ks (after_call (go_
 calls_on t (close size ∷ ks) w (inl k) = calls_on t ks (after_call (close size) w) (close_live t w size k)
 calls_on t (k ∷ ks) w (inr o) = calls_on t ks (after_call k w) (inr (over_stays t k w o))
 
-pub the_parts_joined : (d : Desk) → (begun_of d).verdict ≡ Yes → (ks : List Call) → Live (clock_of d) (after_calls ks (begun_at d)) ⊎ Over (clock_of d) (after_calls ks (begun_at d))
+pub the_parts_joined : (d : Desk) → verdict_of (begun_of d) ≡ Ok tt → (ks : List Call) → Live (clock_of d) (after_calls ks (begun_at d)) ⊎ Over (clock_of d) (after_calls ks (begun_at d))
 the_parts_joined d e ks = calls_on (clock_of d) ks (begun_at d) (inl (begun_live d e))
 
 -- CLOSED, THE PARTS JOINED ARE THE TEXT of the names that the steps gave
-pub the_parts_are_the_text : (d : Desk) → (begun_of d).verdict ≡ Yes → (ks : List Call) → is_none (after_calls ks (begun_at d)).cursor ≡ true → Over (clock_of d) (after_calls ks (begun_at d))
+pub the_parts_are_the_text : (d : Desk) → verdict_of (begun_of d) ≡ Ok tt → (ks : List Call) → is_none (after_calls ks (begun_at d)).cursor ≡ true → Over (clock_of d) (after_calls ks (begun_at d))
 the_parts_are_the_text d e ks closed = by_case (the_parts_joined d e ks)
   where
     by_case : Live (clock_of d) (after_calls ks (begun_at d)) ⊎ Over (clock_of d) (after_calls ks (begun_at d)) → Over (clock_of d) (after_calls ks (begun_at d))
@@ -265,7 +266,7 @@ the_parts_are_the_text d e ks closed = by_case (the_parts_joined d e ks)
     by_case (inr o) = o
 
 -- AND READING IT BACK GIVES THE NAMES, the start and the end, where each job's name is a number of 32 bits, as the calls have them
-pub the_text_is_read_back : (d : Desk) → (begun_of d).verdict ≡ Yes → (ks : List Call) → is_none (after_calls ks (begun_at d)).cursor ≡ true
+pub the_text_is_read_back : (d : Desk) → verdict_of (begun_of d) ≡ Ok tt → (ks : List Call) → is_none (after_calls ks (begun_at d)).cursor ≡ true
     → Each (λ v. job_wire v ≤ most_number) (after_calls ks (begun_at d)).names
     → let w = after_calls ks (begun_at d) in
     (judged w.text ≡ Well (clock_of d) (clock_of d + length w.names) (length (stretches_in w.text))) × (spread (stretches_in w.text) ≡ w.names)

@@ -4,18 +4,17 @@ use Rattle.text.specs.Put.{Put}
 use Rattle.answers.specs.declared.Who.{Who}
 use Rattle.answers.specs.declared.Refusal.{Refusal}
 use Rattle.answers.specs.declared.Refusal.TheVariants.{ShortBuffer, NotInOrder}
-use Rattle.answers.specs.declared.Verdict.{Verdict}
-use Rattle.answers.specs.declared.Verdict.TheVariants.{No}
-use Rattle.answers.specs.Answers.{Line, line, first_of, on_yes, is_yes}
+use Rattle.answers.specs.Verdicts.{Verdict}
+use Rattle.std.specs.Prelude.{Result, Err}
+use Rattle.answers.specs.Answers.{Line, line, first_of, on_yes, yes_with, is_yes}
 use Rattle.desk.specs.declared.Desk.{Desk}
 use Rattle.desk.specs.declared.Stepped.{Stepped}
 use Rattle.desk.specs.Calls.{disorder, step_of}
 use Rattle.waveform.specs.declared.Token.{Token}
 use Rattle.waveform.specs.declared.cursor.Cursor.{Cursor}
 use Rattle.waveform.specs.Cursors.{any_due, begun, stepped}
-use Rattle.waveform.specs.Order.{ordered, none}
+use Rattle.waveform.specs.Order.{ordered}
 use Rattle.waveform.specs.Parts.{bytes_of, wrote_all, due_fitting}
-use Rattle.runs.specs.declared.Begun.{Begun}
 use Rattle.runs.specs.declared.Went.{Went}
 
 -- the desk's clock
@@ -23,8 +22,8 @@ abbrev pub clock_of : Desk → ℕ
 clock_of d = d.ledger.clock.0
 
 -- A RUN BEGINS at the clock of a desk in order (13), else there is none
-unfoldable pub begun_of : Desk → Begun
-begun_of d = record { cursor = on_yes (first_of (disorder d ∷ [])) (begun (clock_of d)) none; verdict = first_of (disorder d ∷ []) }
+unfoldable pub begun_of : Desk → Result Cursor Refusal
+begun_of d = yes_with (first_of (disorder d ∷ [])) (begun (clock_of d))
 
 -- a part of a run: the desk and the cursor behind it, whom its steps went to, and the lines that it wrote
 pub record Part : Type 0 where
@@ -86,7 +85,7 @@ go_answer size most d c = first_of (go_stops size most d c)
 
 -- what a refused part hands back
 abbrev pub refused_went : Desk → Cursor → Refusal → Went
-refused_went d c r = record { desk = d; cursor = c; verdict = No r; bytes = 0; steps = 0 }
+refused_went d c r = record { desk = d; cursor = c; verdict = Err r; bytes = 0; steps = 0 }
 
 -- GOING ON: what it hands back, and the bytes that it writes
 unfoldable pub went_of : ℕ → ℕ → Desk → Cursor → Went

@@ -1,8 +1,10 @@
 -- A run as it is written over any calls: going on at whatever desk there then is, and closing, each with any buffer.
 use Rattle.std.specs.Prelude.{List, [], ◌∷◌, ◌++◌, ℕ}
+use Rattle.std.specs.Result.{result_unwrap_or}
 use Rattle.answers.specs.declared.Who.{Who}
 use Rattle.desk.specs.declared.Desk.{Desk}
 use Rattle.waveform.specs.declared.cursor.Cursor.{Cursor}
+use Rattle.waveform.specs.Order.{none}
 use Rattle.waveform.specs.Parts.{closed_of, closing_bytes}
 use Rattle.runs.specs.Parts.{begun_of, went_of, went_bytes, went_names}
 
@@ -17,9 +19,9 @@ pub record Written : Type 0 where
   pub names : List Who
   pub text : List ℕ
 
--- a run that was begun at a desk
+-- a run that was begun at a desk; with no cursor where that was refused
 abbrev pub begun_at : Desk → Written
-begun_at d = record { cursor = (begun_of d).cursor; names = []; text = [] }
+begun_at d = record { cursor = result_unwrap_or (begun_of d) none; names = []; text = [] }
 
 -- after one call more
 abbrev pub after_call : Call → Written → Written

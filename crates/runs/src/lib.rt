@@ -11,13 +11,6 @@ use desk::Desk;
 use waveform::cursor::Cursor;
 use waveform::parts::Page;
 
-// The cursor of a run that begins, empty where that is refused.
-#[derive(Clone, Copy)]
-pub struct Begun {
-    pub cursor: Cursor,
-    pub verdict: Verdict,
-}
-
 // The desk and the cursor that going on hands back and its answer; how many bytes it wrote and how many steps it took.
 #[derive(Clone, Copy)]
 pub struct Went {
@@ -36,30 +29,35 @@ struct Going {
     steps: u32,
 }
 
-// Begins a run at the desk's clock.
-pub fn begin(desk: Desk) -> Begun
-    ensures { result ≡ begun_of desk }
-{
-    if !desk.in_order() {
-        return Begun {
-            cursor: Cursor::none(),
-            verdict: Verdict::No(Refusal::NotInOrder),
-        };
-    }
-    Begun {
-        cursor: Cursor::begin(desk.ledger.clock.0),
-        verdict: Verdict::Yes,
+impl Went {
+    // A part that is refused: everything as it was.
+    fn refused(desk: Desk, cursor: Cursor, refusal: Refusal) -> Went
+        ensures { result ≡ refused_went desk cursor refusal }
+    {
+        Went {
+            desk,
+            cursor,
+            verdict: Err(refusal),
+            bytes: 0,
+            steps: 0,
+        }
     }
 }
 
+// Begins a run at the desk's clock.
+pub fn begin(desk: Desk) -> Result<Cursor, Refusal>
+    ensures { result ≡ begun_of desk }
+{
+    Refusal::NotInOrder.when(!desk.in_order())?;
+    Ok(Cursor::begin(desk.ledger.clock.0))
+}
+
 // Whether the cursor is in order and stands at the desk's clock.
+#[tactic(auto, unfolding(crate::specs::Parts::ordered_at))]
 fn ordered_at(desk: Desk, cursor: Cursor) -> bool
     ensures { result ≡ ordered_at desk.ledger.clock.0 cursor }
 {
-    if cursor.clock != desk.ledger.clock.0 {
-        return false;
-    }
-    cursor.in_order()
+    cursor.clock == desk.ledger.clock.0 && cursor.in_order()
 }
 
 // What is due while it fits, then steps, each with its lines: up to so many steps, a line that does not fit or a step that is
@@ -76,13 +74,11 @@ fn carry(out: &mut [u8], desk: Desk, cursor: Cursor, most: u32) -> Going
             break;
         }
         let stepped = desk.step();
-        let verdict = stepped.verdict;
-        let who = stepped.who;
-        if !verdict.is_yes() {
+        if stepped.verdict.is_err() {
             break;
         }
         desk = stepped.desk;
-        page = waveform::parts::write_due(out, page.at, page.cursor.stepped(who));
+        page = waveform::parts::write_due(out, page.at, page.cursor.stepped(stepped.who));
         steps += 1;
     }
     Going { desk, page, steps }
@@ -92,23 +88,7 @@ fn carry(out: &mut [u8], desk: Desk, cursor: Cursor, most: u32) -> Going
 fn is_stuck(bytes: usize, cursor: Cursor) -> bool
     ensures { result ≡ eqb bytes 0 && any_due cursor.due }
 {
-    if bytes != 0 {
-        return false;
-    }
-    cursor.due.any()
-}
-
-// A part that is refused: everything as it was.
-fn refused(desk: Desk, cursor: Cursor, refusal: Refusal) -> Went
-    ensures { result ≡ refused_went desk cursor refusal }
-{
-    Went {
-        desk,
-        cursor,
-        verdict: Verdict::No(refusal),
-        bytes: 0,
-        steps: 0,
-    }
+    bytes == 0 && cursor.due.any()
 }
 
 // Carries a run on by so many steps at most.
@@ -116,24 +96,20 @@ pub fn go_on(desk: Desk, cursor: Cursor, most: u32, out: &mut [u8]) -> Went
     ensures { (result ≡ went_of (length out.old) most desk cursor) × (out.new ≡ went_bytes (length out.old) most desk cursor ++ drop (length (went_bytes (length out.old) most desk cursor)) out.old) }
 {
     if !desk.in_order() {
-        return refused(desk, cursor, Refusal::NotInOrder);
+        return Went::refused(desk, cursor, Refusal::NotInOrder);
     }
     if !ordered_at(desk, cursor) {
-        return refused(desk, cursor, Refusal::NotInOrder);
+        return Went::refused(desk, cursor, Refusal::NotInOrder);
     }
     let going = carry(out, desk, cursor, most);
-    let bytes = going.page.at;
-    let after = going.page.cursor;
-    if is_stuck(bytes, after) {
-        return refused(desk, cursor, Refusal::ShortBuffer);
+    if is_stuck(going.page.at, going.page.cursor) {
+        return Went::refused(desk, cursor, Refusal::ShortBuffer);
     }
-    let steps = going.steps;
-    let stood = going.desk;
     Went {
-        desk: stood,
-        cursor: after,
-        verdict: Verdict::Yes,
-        bytes,
-        steps,
+        desk: going.desk,
+        cursor: going.page.cursor,
+        verdict: Ok(()),
+        bytes: going.page.at,
+        steps: going.steps,
     }
 }

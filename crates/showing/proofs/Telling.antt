@@ -5,11 +5,10 @@ use Prim.Native.Nat.{ℕ}
 use lib.ListN.{take}
 use Rattle.text.specs.Put.{Put}
 use Rattle.text.proofs.Texts.{put_front}
-use Rattle.waveform.specs.declared.Outcome.{Outcome}
 use Rattle.waveform.specs.declared.stretches.Bookmark.{Bookmark}
 use Rattle.waveform.specs.declared.stretches.Stretch.{Stretch}
 use Rattle.waveform.specs.declared.stretches.Told.{Told}
-use Rattle.waveform.specs.Texts.{judged}
+use Rattle.waveform.specs.Texts.{Well, Wrong, judged}
 use Rattle.waveform.specs.Telling.{front, next_told, OneByOne}
 use Rattle.waveform.proofs.OneByOne.{stretches_in, well_told, next_is_first}
 use Rattle.showing.specs.declared.Shown.{Shown}
@@ -83,11 +82,11 @@ run_told s {a} {b} {c} {d} {x} {y} {z} start end first each last xs over o =
     record { written = w.written; whole = sym (append_assoc (line_of (Shown.Start start)) (lines_of xs) (line_of (Shown.End end))) ∙ w.whole }
 
 -- the answer to a text that is judged wrong
-pub answered_wrong : (s out : List ℕ) (at line : ℕ) → judged s ≡ Outcome.Wrong line → SoFar (line_of (Shown.Wrong line)) out at → Answered s out at
+pub answered_wrong : (s out : List ℕ) (at line : ℕ) → judged s ≡ Wrong line → SoFar (line_of (Shown.Wrong line)) out at → Answered s out at
 answered_wrong s out at line h t = (line_of (Shown.Wrong line), subst (λ o. AnswerTo s o (line_of (Shown.Wrong line))) (sym h) refl, t)
 
 -- and to one that is judged well
-pub answered_well : (s out : List ℕ) (at start end count : ℕ) → judged s ≡ Outcome.Well start end count → RunTold s out start end at → Answered s out at
+pub answered_well : (s out : List ℕ) (at start end count : ℕ) → judged s ≡ Well start end count → RunTold s out start end at → Answered s out at
 answered_well s out at start end count h t =
     let w = well_told s start end count h in
     let answer = line_of (Shown.Start start) ++ (lines_of (stretches_in s) ++ line_of (Shown.End end)) in

@@ -1,10 +1,9 @@
 -- The answer to a text, and how much of it is written while it is told line by line.
-use Rattle.std.specs.Prelude.{◌≡◌, List, ◌++◌, ℕ, take}
-use Rattle.waveform.specs.declared.Outcome.{Outcome}
+use Rattle.std.specs.Prelude.{◌≡◌, List, ◌++◌, ℕ, take, Ok, Err}
 use Rattle.waveform.specs.declared.stretches.Bookmark.{Bookmark}
 use Rattle.waveform.specs.declared.stretches.Stretch.{Stretch}
 use Rattle.waveform.specs.declared.stretches.Told.{Told}
-use Rattle.waveform.specs.Texts.{judged}
+use Rattle.waveform.specs.Texts.{Outcome, judged}
 use Rattle.waveform.specs.Telling.{front, OneByOne}
 use Rattle.showing.specs.declared.Shown.{Shown}
 use Rattle.showing.specs.Texts.{line_of, lines_of}
@@ -12,10 +11,10 @@ use Rattle.showing.specs.Texts.{line_of, lines_of}
 -- THE ANSWER TO A TEXT by how it is judged: the wrong line; or the start, the stretches that the text tells one after another until it is
 -- over, and the end
 abbrev pub AnswerTo : List ℕ → Outcome → List ℕ → Type 0
-AnswerTo s (Outcome.Wrong line) answer = answer ≡ line_of (Shown.Wrong line)
-AnswerTo s (Outcome.Well start end count) answer =
+AnswerTo s (Err wrong) answer = answer ≡ line_of (Shown.Wrong wrong.0)
+AnswerTo s (Ok run) answer =
     (xs : List Stretch) × (last : Bookmark) × OneByOne s front xs (Told.Over last)
-    × (answer ≡ line_of (Shown.Start start) ++ (lines_of xs ++ line_of (Shown.End end)))
+    × (answer ≡ line_of (Shown.Start run.start) ++ (lines_of xs ++ line_of (Shown.End run.end)))
 
 -- what is told so far: what is written already, and then the bytes that wait in the buffer
 pub record SoFar (told out : List ℕ) (at : ℕ) : Type 0 where

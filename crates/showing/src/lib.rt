@@ -9,8 +9,8 @@ ghost use Rattle.showing.specs.Answers.{Kept, Added, Listed, RunTold, Answered};
 use reading::read_full;
 use std::io;
 use std::io::{Read, Write};
-use waveform::Outcome;
 use waveform::stretches::{Bookmark, Stretch, Told};
+use waveform::{Whole, WrongLine};
 
 pub mod put;
 
@@ -27,6 +27,7 @@ pub enum Shown {
 pub const MOST: usize = 1048576;
 
 // The place for the next line: what waits is written first where there may be no room.
+#[tactic(auto, using(crate::proofs::Telling::all_written))]
 fn place_in<W: Write>(sink: &mut W, out: &[u8], at: usize) -> io::Result<usize>
     requires { (at ≤ length out.now) × (most_line ≤ length out.now) }
     ensures { IfOk result (λ to. (to + most_line ≤ length out.now) × Kept out.now at to) }
@@ -52,24 +53,14 @@ fn tell_stretches<W: Write>(
     text: &[u8],
     sink: &mut W,
     out: &mut [u8],
-    at: usize,
+    mut at: usize,
 ) -> io::Result<usize>
     requires { (at ≤ length out.old) × (most_line ≤ length out.old) }
     ensures told { IfOk result (λ to. (to ≤ length out.old) × Listed text.now out.old out.new at to) }
     ensures failed { OnErr result (length out.new ≡ length out.old) }
 {
-    let mut at = at;
-    let mut mark = Bookmark {
-        place: 0,
-        lines: 0,
-        at: 0,
-        job: 0,
-        feed: 0,
-    };
-    while mark.place < text.len() {
-        let Told::Next(ran, on) = waveform::stretches::next(text, mark) else {
-            break;
-        };
+    let mut mark = Bookmark::FRONT;
+    while let Told::Next(ran, on) = waveform::stretches::next(text, mark) {
         at = tell(sink, out, at, Shown::Ran(ran))?;
         mark = on;
     }
@@ -77,20 +68,14 @@ fn tell_stretches<W: Write>(
 }
 
 // A run: its start, its stretches, its end.
-fn tell_run<W: Write>(
-    text: &[u8],
-    sink: &mut W,
-    out: &mut [u8],
-    start: u64,
-    end: u64,
-) -> io::Result<usize>
+fn tell_run<W: Write>(text: &[u8], sink: &mut W, out: &mut [u8], run: Whole) -> io::Result<usize>
     requires { most_line ≤ length out.old }
-    ensures told { IfOk result (λ at. (at ≤ length out.old) × RunTold text.now out.new start end at) }
+    ensures told { IfOk result (λ at. (at ≤ length out.old) × RunTold text.now out.new run.start run.end at) }
     ensures failed { OnErr result (length out.new ≡ length out.old) }
 {
-    let a = tell(sink, out, 0, Shown::Start(start))?;
+    let a = tell(sink, out, 0, Shown::Start(run.start))?;
     let b = tell_stretches(text, sink, out, a)?;
-    tell(sink, out, b, Shown::End(end))
+    tell(sink, out, b, Shown::End(run.end))
 }
 
 // The whole answer to a text; its last bytes wait in the buffer.
@@ -100,8 +85,8 @@ fn answer<W: Write>(text: &[u8], sink: &mut W, out: &mut [u8]) -> io::Result<usi
     ensures failed { OnErr result (length out.new ≡ length out.old) }
 {
     match waveform::judge(text) {
-        Outcome::Wrong(line) => tell(sink, out, 0, Shown::Wrong(line)),
-        Outcome::Well(start, end, _) => tell_run(text, sink, out, start, end),
+        Ok(run) => tell_run(text, sink, out, run),
+        Err(WrongLine(line)) => tell(sink, out, 0, Shown::Wrong(line)),
     }
 }
 

@@ -11,13 +11,14 @@ use waveform::stretches::Stretch;
 // No line is longer than this.
 pub const MOST: usize = 68;
 
+#[tactic(auto, unfolding(crate::specs::Texts::who_text))]
 fn who(out: &mut [u8], at: usize, who: Who) -> usize
     requires { at + 26 ≤ length out.old }
     ensures { Put out.old out.new at result (who_text who) }
 {
     match who {
-        Who::Job(number) => worded(out, at, b"job ", number as u64, b"\n"),
-        Who::Feed(position) => worded(out, at, b"feed ", position as u64, b"\n"),
+        Who::Job(number) => worded(out, at, b"job ", u64::from(number), b"\n"),
+        Who::Feed(position) => worded(out, at, b"feed ", u64::from(position), b"\n"),
         Who::Idle => text::put::text(out, at, b"idle\n"),
     }
 }
@@ -26,13 +27,13 @@ fn stretch(out: &mut [u8], at: usize, stretch: Stretch) -> usize
     requires { at + most_line ≤ length out.old }
     ensures { Put out.old out.new at result (stretch_text stretch) }
 {
-    let ran = stretch.who;
     let a = worded(out, at, b"", stretch.from, b" ");
     let b = worded(out, a, b"", stretch.to, b" ");
-    who(out, b, ran)
+    who(out, b, stretch.who)
 }
 
 // The text of a line.
+#[tactic(auto, unfolding(crate::specs::Texts::line_of))]
 pub fn line(out: &mut [u8], at: usize, shown: Shown) -> usize
     requires { at + most_line ≤ length out.old }
     ensures { Put out.old out.new at result (line_of shown) }

@@ -4,12 +4,13 @@ use mathlib.Core.Bool.{Bool, true, false, cond, ◌&&◌}
 use mathlib.Core.List.{List, [], ◌∷◌, ◌++◌}
 use Prim.Native.Nat.{ℕ, zero, suc, ◌+◌, ◌-◌, ◌≤◌, ◌<◌, ◌^◌}
 use native.Mathlib.Omega.{arith}
+use native.Mathlib.Numerals.{add-one}
 use lib.Dec.{leb, eqb}
 use lib.ListN.{length, get_or, take, drop, length-append, take-append-drop, drop_of_length-le}
 use lib.Seq.{drop-cons, take-append_seam, get_or-append_seam, get_or-append-add}
-use borrow.Author.Tests.{le-leb, leb-true, eqb-true, eq-eqb}
+use borrow.Author.Tests.{le-leb, leb-true, eqb-true, eq-eqb, ne_eqb}
+use Rattle.std.specs.Prelude.{Option, Some, None}
 use Rattle.lists.proofs.Tests.{both_made}
-use Rattle.text.specs.declared.Number.{Number}
 use Rattle.text.specs.Numbers.{most_digits, most_bits, number_of, bits_of, bits}
 use Rattle.text.specs.Fields.{space, same}
 use Rattle.text.proofs.Numbers.{decimal, binary, number_digits, number_written}
@@ -27,20 +28,33 @@ Plain (token.Job n) = n < 2 ^ 32
 Plain (token.Feed n) = n < 2 ^ 32
 Plain token.Other = ⊥
 
--- a line by its first byte
-pub says_none : (s : List ℕ) → length s < 1 → says s ≡ token.Other
-unfolding says
-says_none [] h = refl
-says_none (b ∷ s) h = absurd (omega (arith, h))
+-- a line by its first byte, of which an empty one has none
+module _ (s : List ℕ) where
+  says_first : says s ≡ cond (eqb (get_or s 0 0) hash) (mark_by (number_of (drop 1 s))) (cond (eqb (get_or s 0 0) bee) (value_of (drop 1 s)) (head_in head_lines 0 s))
+  unfolding says head_in same
+  says_first = go s
+    where
+      go : (s : List ℕ) → says s ≡ cond (eqb (get_or s 0 0) hash) (mark_by (number_of (drop 1 s))) (cond (eqb (get_or s 0 0) bee) (value_of (drop 1 s)) (head_in head_lines 0 s))
+      go [] = refl
+      go (b ∷ s) = refl
 
-pub says_first : (s : List ℕ) → 1 ≤ length s
-    → says s ≡ cond (eqb (get_or s 0 0) hash) (mark_by (number_of (drop 1 s))) (cond (eqb (get_or s 0 0) bee) (value_of (drop 1 s)) (head_in head_lines 0 s))
-unfolding says
-says_first [] h = absurd (omega (arith, h))
-says_first (b ∷ s) h = refl
+  pub says_mark : get_or s 0 0 ≡ hash → mark_by (number_of (drop 1 s)) ≡ says s
+  says_mark h = sym (says_first ∙ ap (λ b. cond b (mark_by (number_of (drop 1 s))) (cond (eqb (get_or s 0 0) bee) (value_of (drop 1 s)) (head_in head_lines 0 s))) (eq-eqb _ _ h))
+
+  pub says_value : get_or s 0 0 ≡ bee → value_of (drop 1 s) ≡ says s
+  says_value h =
+      sym
+      (says_first
+      ∙ (λ i. cond (eqb (h i) hash) (mark_by (number_of (drop 1 s))) (cond (eqb (h i) bee) (value_of (drop 1 s)) (head_in head_lines 0 s))))
+
+  pub says_head : (get_or s 0 0 ≡ hash → ⊥) → (get_or s 0 0 ≡ bee → ⊥) → head_in head_lines 0 s ≡ says s
+  says_head h g =
+      sym
+      (says_first
+      ∙ (λ i. cond (ne_eqb (get_or s 0 0) hash h i) (mark_by (number_of (drop 1 s))) (cond (ne_eqb (get_or s 0 0) bee g i) (value_of (drop 1 s)) (head_in head_lines 0 s))))
 
 -- WHAT IS WRITTEN IS SAID
-value_said : (wire n : ℕ) → n < 2 ^ 32 → value_of (bits n ++ (space ∷ wire ∷ [])) ≡ value_by wire (Number.Is n)
+value_said : (wire n : ℕ) → n < 2 ^ 32 → value_of (bits n ++ (space ∷ wire ∷ [])) ≡ value_by wire (Some n)
 unfolding value_of
 value_said wire n h =
     let xs = bits n in
@@ -94,9 +108,9 @@ last_two s h =
     ∙ ap (get_or s (length s - 2) 0 ∷◌) (drop-cons s (length s - 1) 0 (omega (arith, h)) ∙ ap (get_or s (length s - 1) 0 ∷◌) none) in
     ap (take (length s - 2) s ++◌) (sym rest) ∙ take-append-drop (length s - 2) s
 
-mark_written : (s : List ℕ) (n : Number) → number_of s ≡ n → Says (hash ∷ s) (mark_by n)
-mark_written s (Number.Is t) e o = ap (hash ∷◌) (number_written 10 decimal most_digits t s e)
-mark_written s Number.Not e o = absurd (o refl)
+mark_written : (s : List ℕ) (n : Option ℕ) → number_of s ≡ n → Says (hash ∷ s) (mark_by n)
+mark_written s (Some t) e o = ap (hash ∷◌) (number_written 10 decimal most_digits t s e)
+mark_written s None e o = absurd (o refl)
 
 value_written : (s : List ℕ) → Says (bee ∷ s) (value_of s)
 unfolding value_of
@@ -117,9 +131,9 @@ value_written s = go (leb 2 (length s)) refl (eqb (get_or s (length s - 2) 0) sp
     by_wire h g n b false e true f o = put h g n b quote (eqb-true _ quote f)
     by_wire h g n b false e false f o = absurd (o refl)
 
-    by_bits : leb 2 (length s) ≡ true → eqb (get_or s (length s - 2) 0) space ≡ true → (m : Number) → bits_of (take (length s - 2) s) ≡ m → Says (bee ∷ s) (value_by (get_or s (length s - 1) 0) m)
-    by_bits h g (Number.Is n) e = by_wire h g n (number_written 2 binary most_bits n (take (length s - 2) s) e) (eqb (get_or s (length s - 1) 0) bang) refl (eqb (get_or s (length s - 1) 0) quote) refl
-    by_bits h g Number.Not e = λ o. absurd (o refl)
+    by_bits : leb 2 (length s) ≡ true → eqb (get_or s (length s - 2) 0) space ≡ true → (m : Option ℕ) → bits_of (take (length s - 2) s) ≡ m → Says (bee ∷ s) (value_by (get_or s (length s - 1) 0) m)
+    by_bits h g (Some n) e = by_wire h g n (number_written 2 binary most_bits n (take (length s - 2) s) e) (eqb (get_or s (length s - 1) 0) bang) refl (eqb (get_or s (length s - 1) 0) quote) refl
+    by_bits h g None e = λ o. absurd (o refl)
 
     go : (x : Bool) → leb 2 (length s) ≡ x → (y : Bool) → eqb (get_or s (length s - 2) 0) space ≡ y
         → Says (bee ∷ s) (cond (x && y) (value_by (get_or s (length s - 1) 0) (bits_of (take (length s - 2) s))) token.Other)
@@ -128,18 +142,23 @@ value_written s = go (leb 2 (length s)) refl (eqb (get_or s (length s - 2) 0) sp
     go false h y g = λ o. absurd (o refl)
 
 -- the lines in front, one after the other
-module _ (l : List ℕ) (ls : List (List ℕ)) (k : ℕ) (s : List ℕ) where
-  pub head_here : same s l ≡ true → head_in (l ∷ ls) k s ≡ token.Head k
+module _ (k : ℕ) (s : List ℕ) (h : k < head_count) where
+  head_next : head_in (drop k head_lines) k s ≡ cond (same s (get_or head_lines k [])) (token.Head k) (head_in (drop (suc k) head_lines) (suc k) s)
   unfolding head_in
-  head_here h = rw h
+  head_next = ap (λ ls. head_in ls k s) (drop-cons head_lines k [] h)
 
-  pub head_past : same s l ≡ false → head_in (l ∷ ls) k s ≡ head_in ls (suc k) s
-  unfolding head_in
-  head_past h = rw h
+  pub head_here : same s (get_or head_lines k []) ≡ true → head_in (drop k head_lines) k s ≡ token.Head k
+  head_here e = head_next ∙ ap (λ b. cond b (token.Head k) (head_in (drop (suc k) head_lines) (suc k) s)) e
 
-pub head_none : (k : ℕ) (s : List ℕ) → head_in [] k s ≡ token.Other
+  pub head_past : same s (get_or head_lines k []) ≡ false → head_in (drop k head_lines) k s ≡ head_in (drop (k + 1) head_lines) (k + 1) s
+  head_past e =
+      head_next
+      ∙ ap (λ b. cond b (token.Head k) (head_in (drop (suc k) head_lines) (suc k) s)) e
+      ∙ ap (λ n. head_in (drop n head_lines) n s) (sym (add-one k))
+
+pub head_none : (k : ℕ) (s : List ℕ) → head_count ≤ k → head_in (drop k head_lines) k s ≡ token.Other
 unfolding head_in
-head_none k s = refl
+head_none k s h = ap (λ ls. head_in ls k s) (drop_of_length-le head_lines h)
 
 -- the lines in front, from the k-th on
 head_written : (ls : List (List ℕ)) (k : ℕ) (s : List ℕ) → ((i : ℕ) → i < length ls → get_or ls i [] ≡ get_or head_lines (k + i) []) → Says s (head_in ls k s)

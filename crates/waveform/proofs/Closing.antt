@@ -11,7 +11,7 @@ use lib.ListN.{length, length-append}
 use Rattle.lists.specs.Lists.{all_of}
 use Rattle.lists.proofs.Tests.{both, false_not_true}
 use Rattle.answers.specs.declared.Refusal.{Refusal}
-use Rattle.answers.specs.declared.Verdict.TheVariants.{Yes, No}
+use Rattle.std.specs.Prelude.{Ok, Err}
 use Rattle.answers.specs.Answers.{first_of, on_yes}
 use Rattle.waveform.specs.declared.Token.{Token}
 use Rattle.waveform.specs.declared.Token.TheVariants as token
@@ -20,7 +20,7 @@ use Rattle.waveform.specs.declared.parts.Closed.{Closed}
 use Rattle.waveform.specs.Texts.{as_line}
 use Rattle.waveform.specs.Cursors.{flagged, due_lines, any_due, any_value, wrote}
 use Rattle.waveform.specs.Order.{none, is_none}
-use Rattle.waveform.specs.Parts.{bytes_of, fitting, wrote_all, due_fitting, stuck, closing_lines, closing_fitting, after_closing, close_stops, closed_of, closing_bytes}
+use Rattle.waveform.specs.Parts.{bytes_of, fitting, wrote_all, due_fitting, stuck, closing_lines, closing_fitting, after_closing, close_stops, refused, closed_of, closing_bytes}
 use Rattle.waveform.proofs.Lengths.{line_length}
 use Rattle.waveform.proofs.Cursors.{due_first, due_none}
 use Rattle.waveform.proofs.Fitting.{fits_first, fits_not, short_before, whole_before, due_left}
@@ -166,8 +166,8 @@ stuck_nothing lines (l ∷ ls) h =
 
 -- what closing hands back by its answer
 module _ (room : ℕ) (c : Cursor) where
-  pub closed_no : (r : Refusal) → first_of (close_stops room c) ≡ No r
-      → (◌≡◌ {A = Closed} (record { cursor = c; verdict = No r; bytes = 0 }) (closed_of room c)) × ([] ≡ closing_bytes room c)
+  pub closed_no : (r : Refusal) → first_of (close_stops room c) ≡ Err r
+      → (refused c r ≡ closed_of room c) × ([] ≡ closing_bytes room c)
   unfolding closed_of closing_bytes
   closed_no r e = (
     λ i. record {
@@ -178,8 +178,8 @@ module _ (room : ℕ) (c : Cursor) where
     λ i. on_yes (sym e i) (bytes_of (closing_fitting room c)) [],
   )
 
-  pub closed_yes : first_of (close_stops room c) ≡ Yes
-      → (◌≡◌ {A = Closed} (record { cursor = after_closing (closing_fitting room c) c; verdict = Yes; bytes = length (bytes_of (closing_fitting room c)) }) (closed_of room c))
+  pub closed_yes : first_of (close_stops room c) ≡ Ok tt
+      → (◌≡◌ {A = Closed} (record { cursor = after_closing (closing_fitting room c) c; verdict = Ok tt; bytes = length (bytes_of (closing_fitting room c)) }) (closed_of room c))
       × (bytes_of (closing_fitting room c) ≡ closing_bytes room c)
   unfolding closed_of closing_bytes
   closed_yes e = (

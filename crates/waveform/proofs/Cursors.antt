@@ -1,18 +1,21 @@
 -- A run that is being written: the lines that are due begin with the first of them, and what is left is due after it.
 use mathlib.Core.Path.{◌≡◌, refl, ap, sym, ◌∙◌}
-use mathlib.Core.Bool.{Bool, true, false, not, ◌||◌}
+use mathlib.Core.Bool.{Bool, true, false, cond, not, ◌||◌}
 use mathlib.Core.List.{[], ◌∷◌}
 use Prim.Native.Nat.{ℕ, suc, ◌+◌, ◌-◌, ◌≤◌, ◌<◌}
 use native.Mathlib.Numerals.{add-one}
 use native.Mathlib.Omega.{arith}
 use borrow.Author.Tests.{ltb-true, ltb-false}
 use lib.Dec.{ltb, eqb}
+use Rattle.std.specs.Prelude.{Some, None}
 use Rattle.answers.specs.declared.Who.{Who}
+use Rattle.waveform.specs.declared.Token.{Token}
 use Rattle.waveform.specs.declared.Token.TheVariants as token
 use Rattle.waveform.specs.declared.cursor.Due.{Due}
 use Rattle.waveform.specs.declared.cursor.Cursor.{Cursor}
 use Rattle.waveform.specs.Runs.{head_count, heads_from, job_wire, feed_wire}
 use Rattle.waveform.specs.Cursors.{due_lines, any_due, first_due, one_less, wrote, told_by, since_by, due_after, stepped}
+use Rattle.waveform.proofs.Options.{if_some, if_none}
 
 -- the lines in front that are left: their first, and the others
 heads_first : (k : ℕ) → k < head_count → heads_from (head_count - k) k ≡ token.Head k ∷ heads_from (head_count - (k + 1)) (k + 1)
@@ -36,6 +39,14 @@ due_first c e = go (ltb c.due.heads head_count) refl c.due.mark refl c.due.job r
     go false hh false mm true jj f ff e = rw (hh, mm, jj, heads_past c.due.heads (ltb-false _ _ hh))
     go false hh false mm false jj true ff e = rw (hh, mm, jj, ff, heads_past c.due.heads (ltb-false _ _ hh))
     go false hh false mm false jj false ff e = let z : ◌≡◌ {A = ℕ} 0 1 = cc in absurd (omega arith)
+
+-- whether there is a first
+module _ (c : Cursor) where
+  pub first_some : {l : Token} → Some l ≡ cond (any_due c.due) (Some (first_due c)) None → (any_due c.due ≡ true) × (l ≡ first_due c)
+  first_some = if_some (any_due c.due) (first_due c)
+
+  pub first_none : None ≡ cond (any_due c.due) (Some (first_due c)) None → any_due c.due ≡ false
+  first_none = if_none (any_due c.due) (first_due c)
 
 -- nothing due is no line
 pub due_none : (c : Cursor) → any_due c.due ≡ false → due_lines c ≡ []

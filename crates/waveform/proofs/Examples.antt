@@ -8,12 +8,10 @@ use Rattle.answers.specs.declared.Who.TheVariants.{Job, Feed, Idle}
 use Rattle.text.specs.Text.{spelt}
 use Rattle.text.specs.Numbers.{is_digit, all_digits, counted, is_shaped, number_in, numeral_in, numeral}
 use Rattle.text.specs.Fields.{parted, lines_of, same}
-use Rattle.waveform.specs.declared.Outcome.{Outcome}
-use Rattle.waveform.specs.declared.Outcome.TheVariants.{Wrong, Well}
 use Rattle.waveform.specs.declared.State.TheVariants.{Heading}
 use Rattle.waveform.specs.Runs.{changes, body, heads_from, told}
 use Rattle.waveform.specs.Bytes.{head_in, value_of, says}
-use Rattle.waveform.specs.Texts.{as_text, text_of, reading, judge, judged}
+use Rattle.waveform.specs.Texts.{as_text, text_of, reading, judge, judged, Outcome, Well, Wrong}
 
 -- the lines in front of every run
 abbrev pub front : String

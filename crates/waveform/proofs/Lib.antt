@@ -7,6 +7,7 @@ pub mod Live
 pub mod Bytes
 pub mod Plain
 pub mod Texts
+pub mod Options
 pub mod Judging
 pub mod Telling
 pub mod Onward

@@ -12,7 +12,7 @@ use Rattle.answers.specs.declared.Who.{Who}
 use Rattle.text.specs.Fields.{lines_of}
 use Rattle.waveform.specs.declared.State.{State}
 use Rattle.waveform.specs.declared.State.TheVariants.{Heading, Marked}
-use Rattle.waveform.specs.declared.Outcome.TheVariants as outcome
+use Rattle.waveform.specs.Texts as texts
 use Rattle.waveform.specs.declared.stretches.Bookmark.{Bookmark}
 use Rattle.waveform.specs.declared.stretches.Stretch.{Stretch}
 use Rattle.waveform.specs.declared.stretches.Told.{Told}
@@ -147,7 +147,7 @@ pub record WellTold (s : List ℕ) (start end many : ℕ) : Type 0 where
   pub place : last.place ≡ length s
   pub instant : last.at ≡ end
 
-pub well_told : (s : List ℕ) (a b c : ℕ) → judged s ≡ outcome.Well a b c → WellTold s a b c
+pub well_told : (s : List ℕ) (a b c : ℕ) → judged s ≡ texts.Well a b c → WellTold s a b c
 well_told s a b c h =
     let r = well_is_a_run s a b c h in
     let same : stretches_in s ≡ stretches (Heading 0) (told a r.names) = ap stretches_in r.text ∙ run_stretches a r.names r.run in

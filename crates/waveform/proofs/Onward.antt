@@ -10,9 +10,9 @@ use lib.Dec.{leb}
 use lib.ListN.{length, take, drop, length-drop}
 use lib.Seq.{length-take-le, drop-drop}
 use borrow.Author.Tests.{leb-true}
+use Rattle.std.specs.Prelude.{Option, Some, None}
 use Rattle.lists.proofs.Tests.{both}
 use Rattle.ticks.specs.Ticks.{last_instant}
-use Rattle.text.specs.declared.Found.{Found}
 use Rattle.text.specs.Fields.{newline, found_in, lines_of}
 use Rattle.text.proofs.Fields.{cut_at, cut_nowhere}
 use Rattle.waveform.specs.declared.State.{State}
@@ -35,15 +35,15 @@ pub record Behind (x l : List ℕ) (ps : List (List ℕ)) : Type 0 where
 pub line_behind : (x l m : List ℕ) (ls : List (List ℕ)) → lines_of x ≡ l ∷ m ∷ ls → Behind x l (m ∷ ls)
 line_behind x l m ls h = go (found_in newline 0 x) refl
   where
-    go : (r : Found) → found_in newline 0 x ≡ r → Behind x l (m ∷ ls)
-    go (Found.At k) e =
+    go : (r : Option ℕ) → found_in newline 0 x ≡ r → Behind x l (m ∷ ls)
+    go (Some k) e =
         let c = cut_at newline x 0 k e in
         let line : l ≡ take (k - 0) x = cc c.fields in
         let rest : m ∷ ls ≡ lines_of (drop (k + 1) x) = cc c.fields in
         let long : length l ≡ k = ap length line ∙ length-take-le (k - 0) x (omega (arith, c.inside)) ∙ omega arith in
         let far : suc (length l) ≡ k + 1 = omega (arith, long) in
         record { inside = omega (arith, long, c.inside); left = ap (λ n. lines_of (drop n x)) far ∙ sym rest }
-    go Found.Nothing e =
+    go None e =
         let z : ◌≡◌ {A = ℕ} 0 1 = cc (cut_nowhere newline x 0 e) in
         absurd (omega arith)
 

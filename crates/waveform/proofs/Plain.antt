@@ -6,12 +6,12 @@ use Prim.Native.Nat.{ℕ, zero, suc, ◌+◌, ◌-◌, ◌≤◌, ◌<◌, ◌^�
 use native.Mathlib.Omega.{arith}
 use lib.Dec.{leb, eqb}
 use lib.ListN.{length, get_or, take}
+use Rattle.std.specs.Prelude.{Option, Some, None}
 use Rattle.lists.specs.Lists.{Each}
 use Rattle.lists.proofs.Lists.{each_append}
 use Rattle.ticks.specs.Ticks.{last_instant}
 use Rattle.answers.specs.declared.Who.{Who}
 use Rattle.answers.specs.declared.Who.TheVariants.{Job, Feed, Idle}
-use Rattle.text.specs.declared.Number.{Number}
 use Rattle.text.specs.Numbers.{most_bits, number_of, bits_of}
 use Rattle.text.proofs.Numbers.{binary, number_bounded}
 use Rattle.waveform.specs.declared.Token.TheVariants as token
@@ -62,26 +62,26 @@ told_plain t ws r =
     each_append Plain (heads_from head_count 0) (token.Mark t ∷ body t ws) (heads_plain head_count 0 (omega arith)) (omega (arith, r.within), body_plain t ws r)
 
 -- WHAT IS READ OF A LINE CAN BE WRITTEN
-value_writable : (wire : ℕ) (s : List ℕ) (m : Number) → bits_of s ≡ m → Writable (value_by wire m)
-value_writable wire s (Number.Is n) e = go (eqb wire bang) (eqb wire quote)
+value_writable : (wire : ℕ) (s : List ℕ) (m : Option ℕ) → bits_of s ≡ m → Writable (value_by wire m)
+value_writable wire s (Some n) e = go (eqb wire bang) (eqb wire quote)
   where
     go : (x y : Bool) → Writable (cond x (token.Job n) (cond y (token.Feed n) token.Other))
     go true y = omega (arith, number_bounded 2 binary most_bits n s e)
     go false true = tt
     go false false = tt
-value_writable wire s Number.Not e = tt
+value_writable wire s None e = tt
 
 -- binary digits are a number of 32 bits
 pub bits_narrow : (s : List ℕ) → Narrow (bits_of s)
 bits_narrow s = go (bits_of s) refl
   where
-    go : (m : Number) → bits_of s ≡ m → Narrow m
-    go (Number.Is n) e = number_bounded 2 binary most_bits n s e
-    go Number.Not e = tt
+    go : (m : Option ℕ) → bits_of s ≡ m → Narrow m
+    go (Some n) e = number_bounded 2 binary most_bits n s e
+    go None e = tt
 
-mark_writable : (m : Number) → Writable (mark_by m)
-mark_writable (Number.Is t) = tt
-mark_writable Number.Not = tt
+mark_writable : (m : Option ℕ) → Writable (mark_by m)
+mark_writable (Some t) = tt
+mark_writable None = tt
 
 head_writable : (ls : List (List ℕ)) (k : ℕ) (s : List ℕ) → Writable (head_in ls k s)
 unfolding head_in

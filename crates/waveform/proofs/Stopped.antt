@@ -9,7 +9,7 @@ use Rattle.text.specs.Fields.{newline, lines_of}
 use Rattle.text.proofs.Fields.{fields_some}
 use Rattle.waveform.specs.declared.State.{State}
 use Rattle.waveform.specs.declared.State.TheVariants.{Heading}
-use Rattle.waveform.specs.declared.Outcome.TheVariants as outcome
+use Rattle.waveform.specs.Texts as texts
 use Rattle.waveform.specs.declared.stretches.Bookmark.{Bookmark}
 use Rattle.waveform.specs.declared.stretches.Told.TheVariants.{Wrong, Over}
 use Rattle.waveform.specs.Reading.{next, come, done}
@@ -17,7 +17,7 @@ use Rattle.waveform.specs.Bytes.{says}
 use Rattle.waveform.specs.Stretches.{stretches}
 use Rattle.waveform.specs.Texts.{is_dead, is_nothing, end_in, Reading, reading, line_read, judge, judged}
 use Rattle.waveform.specs.Telling.{front, behind, tell, OneByOne}
-use Rattle.waveform.proofs.Texts.{whole, wrong_not_well}
+use Rattle.waveform.proofs.Texts.{whole, wrong_not_well, wrong_same}
 use Rattle.waveform.proofs.Telling.{told_wrong, told_in_order}
 use Rattle.waveform.proofs.OneByOne.{lines_told}
 
@@ -31,7 +31,7 @@ record Stops (r : Reading) (ps : List (List ℕ)) (n : ℕ) : Type 0 where
   line : n ≡ suc (r.lines + length lines)
   wrong : (p : ℕ) → tell (come r.state (map says lines)) p (r.lines + length lines) (part ∷ more) ≡ Wrong n
 
-stops : (r : Reading) (l : List ℕ) (ls : List (List ℕ)) (n : ℕ) → is_dead r.state ≡ false → judge r (l ∷ ls) ≡ outcome.Wrong n → Stops r (l ∷ ls) n
+stops : (r : Reading) (l : List ℕ) (ls : List (List ℕ)) (n : ℕ) → is_dead r.state ≡ false → judge r (l ∷ ls) ≡ texts.Wrong n → Stops r (l ∷ ls) n
 unfolding judge come tell
 stops r l [] n a h =
     record {
@@ -44,17 +44,17 @@ stops r l [] n a h =
       wrong = λ p. go l (done r.state) h (behind r.state p (r.lines + 0));
     }
   where
-    here : outcome.Wrong (suc r.lines) ≡ outcome.Wrong n → n ≡ suc (r.lines + 0)
-    here e = let same : suc r.lines ≡ n = cc in omega (arith, same)
+    here : texts.Wrong (suc r.lines) ≡ texts.Wrong n → n ≡ suc (r.lines + 0)
+    here e = omega (arith, wrong_same (suc r.lines) n e)
 
     go_line : (m : List ℕ) (d : Bool)
-        → cond (is_nothing m) (cond d (outcome.Well r.start (end_in r.state) r.ended) (outcome.Wrong (suc r.lines))) (outcome.Wrong (suc r.lines)) ≡ outcome.Wrong n → n ≡ suc (r.lines + 0)
+        → cond (is_nothing m) (cond d (texts.Well r.start (end_in r.state) r.ended) (texts.Wrong (suc r.lines))) (texts.Wrong (suc r.lines)) ≡ texts.Wrong n → n ≡ suc (r.lines + 0)
     go_line [] true e = absurd (wrong_not_well n r.start (end_in r.state) r.ended (sym e))
     go_line [] false e = here e
     go_line (x ∷ m) d e = here e
 
     go : (m : List ℕ) (d : Bool)
-        → cond (is_nothing m) (cond d (outcome.Well r.start (end_in r.state) r.ended) (outcome.Wrong (suc r.lines))) (outcome.Wrong (suc r.lines)) ≡ outcome.Wrong n
+        → cond (is_nothing m) (cond d (texts.Well r.start (end_in r.state) r.ended) (texts.Wrong (suc r.lines))) (texts.Wrong (suc r.lines)) ≡ texts.Wrong n
         → (b : Bookmark) → cond (is_nothing m) (cond d (Over b) (Wrong (suc (r.lines + 0)))) (Wrong (suc (r.lines + 0))) ≡ Wrong n
     go [] true e b = absurd (wrong_not_well n r.start (end_in r.state) r.ended (sym e))
     go [] false e b = ap Wrong (sym (here e))
@@ -64,10 +64,10 @@ stops r l (m ∷ ls) n a h = go (is_dead after) refl h (λ d. stops (line_read r
     after : State
     after = next r.state (says l)
 
-    go : (b : Bool) → is_dead after ≡ b → cond b (outcome.Wrong (suc r.lines)) (judge (line_read r after) (m ∷ ls)) ≡ outcome.Wrong n
-        → (is_dead after ≡ false → judge (line_read r after) (m ∷ ls) ≡ outcome.Wrong n → Stops (line_read r after) (m ∷ ls) n) → Stops r (l ∷ m ∷ ls) n
+    go : (b : Bool) → is_dead after ≡ b → cond b (texts.Wrong (suc r.lines)) (judge (line_read r after) (m ∷ ls)) ≡ texts.Wrong n
+        → (is_dead after ≡ false → judge (line_read r after) (m ∷ ls) ≡ texts.Wrong n → Stops (line_read r after) (m ∷ ls) n) → Stops r (l ∷ m ∷ ls) n
     go true d e ih =
-        let same : suc r.lines ≡ n = cc in
+        let same : suc r.lines ≡ n = wrong_same (suc r.lines) n e in
         let line : n ≡ suc (r.lines + 0) = omega (arith, same) in
         record {
           lines = [];
@@ -97,7 +97,7 @@ whole_front (l ∷ []) q qs = refl
 whole_front (l ∷ m ∷ ls) q qs = ap (l ∷◌) (whole_front (m ∷ ls) q qs)
 
 -- A TEXT THAT IS JUDGED WRONG tells the stretches that end before the wrong line, and then that line
-pub wrong_told : (s : List ℕ) (n : ℕ) → judged s ≡ outcome.Wrong n → OneByOne s front (stretches (Heading 0) (map says (take (n - 1) (whole (lines_of s))))) (Wrong n)
+pub wrong_told : (s : List ℕ) (n : ℕ) → judged s ≡ texts.Wrong n → OneByOne s front (stretches (Heading 0) (map says (take (n - 1) (whole (lines_of s))))) (Wrong n)
 wrong_told s n h =
     let (l, ls, e) = fields_some newline s in
     let w = stops (reading (Heading 0) 0 0 0) l ls n refl (ap (judge (reading (Heading 0) 0 0 0)) (sym e) ∙ h) in

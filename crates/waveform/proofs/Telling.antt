@@ -8,19 +8,19 @@ use lib.Dec.{leb, ltb}
 use lib.ListN.{length, take, drop, length-drop}
 use lib.Seq.{length-take-le}
 use borrow.Author.Tests.{le-leb, lt-leb, leb-true, ltb-true}
+use Rattle.std.specs.Prelude.{Some, None}
 use Rattle.lists.proofs.Tests.{both, both_made, false_not_true}
 use Rattle.ticks.specs.Ticks.{last_instant}
-use Rattle.text.specs.declared.Found.{Found}
 use Rattle.text.specs.Fields.{newline, found_in, parted, lines_of}
-use Rattle.text.proofs.Fields.{Cut, cut_nowhere, fields_some}
+use Rattle.text.proofs.Fields.{Cut, cut_at, cut_nowhere, fields_some}
 use Rattle.waveform.specs.declared.Token.{Token}
 use Rattle.waveform.specs.declared.Token.TheVariants as token
 use Rattle.waveform.specs.declared.State.{State}
 use Rattle.waveform.specs.declared.State.TheVariants.{Heading, Opened, Jobbed, Going, Marked, Halfway, Dead}
 use Rattle.waveform.specs.declared.stretches.Bookmark.{Bookmark}
 use Rattle.waveform.specs.declared.stretches.Told.{Told}
-use Rattle.waveform.specs.declared.stretches.Told.TheVariants.{Disorder, Wrong, Next}
-use Rattle.waveform.specs.Reading.{alone, who_by, goes_to, next}
+use Rattle.waveform.specs.declared.stretches.Told.TheVariants.{Disorder, Wrong, Next, Over}
+use Rattle.waveform.specs.Reading.{alone, who_by, goes_to, next, done}
 use Rattle.waveform.specs.Bytes.{says}
 use Rattle.waveform.specs.Stretches.{stretch, ended_by}
 use Rattle.waveform.specs.Texts.{is_dead, is_nothing, ends_one}
@@ -125,7 +125,7 @@ module _ (s : State) where
       ap (λ ps. tell s p k (l ∷ ps)) e ∙ ap (λ ps. line_told s (says l) (p + suc (length l)) (suc k) (tell (next s (says l)) (p + suc (length l)) (suc k) ps)) (sym e)
 
   module _ (text : List ℕ) (p k : ℕ) where
-    pub tell_cut : (e : ℕ) → Cut newline text p e
+    tell_cut : (e : ℕ) → Cut newline text p e
         → tell s p k (lines_of (drop p text))
         ≡ line_told s (says (take (e - p) (drop p text))) (e + 1) (suc k) (tell (next s (says (take (e - p) (drop p text)))) (e + 1) (suc k) (lines_of (drop (e + 1) text)))
     tell_cut e c =
@@ -135,8 +135,26 @@ module _ (s : State) where
         ∙ tell_line p k l (drop (e + 1) text)
         ∙ ap (λ q. line_told s (says l) q (suc k) (tell (next s (says l)) q (suc k) (lines_of (drop (e + 1) text)))) past
 
+    -- by the state after it: no text of a run goes on so; it ended a stretch; or what comes after it is told
+    module _ (e : ℕ) (found : found_in newline p (drop p text) ≡ Some e) (n : State) (after : n ≡ next s (says (take (e - p) (drop p text)))) where
+      abbrev rest : Told
+      rest = tell (next s (says (take (e - p) (drop p text)))) (e + 1) (suc k) (lines_of (drop (e + 1) text))
+
+      pub tell_wrong : is_dead n ≡ true → tell s p k (lines_of (drop p text)) ≡ Wrong (suc k)
+      tell_wrong d = tell_cut e (cut_at newline text p e found) ∙ told_wrong s (says (take (e - p) (drop p text))) n after (e + 1) (suc k) rest d
+
+      pub tell_ended : is_dead n ≡ false → ends_one n ≡ 1
+          → tell s p k (lines_of (drop p text)) ≡ Next (ending_at (behind n (e + 1) (suc k)) (since_in s)) (behind n (e + 1) (suc k))
+      tell_ended d h = tell_cut e (cut_at newline text p e found) ∙ told_ended s (says (take (e - p) (drop p text))) n after (e + 1) (suc k) rest d h
+
+      pub tell_on : is_dead n ≡ false → ends_one n ≡ 0 → tell s p k (lines_of (drop p text)) ≡ tell n (e + 1) (suc k) (lines_of (drop (e + 1) text))
+      tell_on d h =
+          tell_cut e (cut_at newline text p e found)
+          ∙ told_on s (says (take (e - p) (drop p text))) n after (e + 1) (suc k) rest d (λ q. omega (arith, q, h))
+          ∙ ap (λ m. tell m (e + 1) (suc k) (lines_of (drop (e + 1) text))) (sym after)
+
     -- no newline is left, but something stands there
-    pub tell_tail : p < length text → found_in newline p (drop p text) ≡ Found.Nothing → tell s p k (lines_of (drop p text)) ≡ Wrong (suc k)
+    pub tell_tail : p < length text → found_in newline p (drop p text) ≡ None → tell s p k (lines_of (drop p text)) ≡ Wrong (suc k)
     unfolding tell
     tell_tail l h = ap (tell s p k) (cut_nowhere newline text p h) ∙ go (drop p text) (omega (arith, length-drop p text, l))
       where
@@ -144,10 +162,16 @@ module _ (s : State) where
         go [] q = absurd (omega arith)
         go (b ∷ x) q = refl
 
-  -- nothing is left
-  pub tell_end : (p k : ℕ) (x : List ℕ) → x ≡ [] → tell s p k (lines_of x) ≡ end_told s p k
+  -- nothing is left: the text is over, or something is missing
+  tell_end : (p k : ℕ) (x : List ℕ) → x ≡ [] → tell s p k (lines_of x) ≡ end_told s p k
   unfolding tell parted
   tell_end p k x e = ap (λ y. tell s p k (lines_of y)) e
+
+  pub tell_over : (p k : ℕ) (x : List ℕ) → x ≡ [] → done s ≡ true → tell s p k (lines_of x) ≡ Over (behind s p k)
+  tell_over p k x e d = tell_end p k x e ∙ ap (λ b. cond b (Over (behind s p k)) (Wrong (suc k))) d
+
+  pub tell_short : (p k : ℕ) (x : List ℕ) → x ≡ [] → done s ≡ false → tell s p k (lines_of x) ≡ Wrong (suc k)
+  tell_short p k x e d = tell_end p k x e ∙ ap (λ b. cond b (Over (behind s p k)) (Wrong (suc k))) d
 
 -- FROM A BOOKMARK ON
 module _ (text : List ℕ) (b : Bookmark) where

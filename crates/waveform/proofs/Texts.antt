@@ -8,6 +8,7 @@ use native.Mathlib.Omega.{arith}
 use lib.Dec.{leb, ltb, eqb}
 use lib.ListN.{length, take, get_or, length-append}
 use borrow.Author.Tests.{le-leb, lt-ltb, eq-eqb, ne_eqb, eqb-true, not-true}
+use Rattle.std.specs.Prelude.{Ok, Err}
 use Rattle.lists.specs.Lists.{every, Each}
 use Rattle.lists.proofs.Lists.{each_append}
 use Rattle.lists.proofs.Places.{each_of_every}
@@ -21,14 +22,14 @@ use Rattle.text.proofs.Numbers.{decimal, binary, digit_is, digits_all}
 use Rattle.text.proofs.Fields.{fields_some}
 use Rattle.waveform.specs.declared.Token.{Token}
 use Rattle.waveform.specs.declared.Token.TheVariants as token
+use Rattle.waveform.specs.declared.Whole.{Whole}
 use Rattle.waveform.specs.declared.State.{State}
 use Rattle.waveform.specs.declared.State.TheVariants.{Heading, Opened, Jobbed, Going, Marked, Halfway, Dead}
-use Rattle.waveform.specs.declared.Outcome.TheVariants.{Wrong, Well}
 use Rattle.waveform.specs.Runs.{head_count, heads_from, body, told, Run}
 use Rattle.waveform.specs.Reading.{alone, ran, headed, opens, goes_to, next, come, done, Writable}
 use Rattle.waveform.specs.Stretches.{ended_by, stretches}
 use Rattle.waveform.specs.Bytes.{bang, quote, head_lines, written, says}
-use Rattle.waveform.specs.Texts.{as_text, lines_in, text_of, Begins, is_dead, is_nothing, end_in, start_by, ends_one, Reading, reading, line_read, end_read, judge, judged}
+use Rattle.waveform.specs.Texts.{as_text, lines_in, text_of, Begins, is_dead, is_nothing, end_in, start_by, ends_one, Reading, reading, line_read, end_read, judge, judged, Well, Wrong, Outcome}
 use Rattle.waveform.proofs.Written.{passed, come_append, end_of, told_read, ends_done}
 use Rattle.waveform.proofs.Read.{dead_stays, read_told}
 use Rattle.waveform.proofs.Live.{come_sound, goes_on}
@@ -380,6 +381,15 @@ record WellFrom (r : Reading) (ps : List (List ℕ)) : Type 0 where
   parts : ps ≡ lines ++ ([] ∷ [])
   ends : done (come r.state (map says lines)) ≡ true
 
+-- what is made of a text, by its parts; zeros where it has none
+abbrev whole_in : Outcome → Whole
+whole_in (Ok w) = w
+whole_in (Err l) = record { start = 0; end = 0; stretches = 0 }
+
+abbrev line_in : Outcome → ℕ
+line_in (Ok w) = 0
+line_in (Err l) = l.0
+
 pub wrong_not_well : (n a b c : ℕ) → Wrong n ≡ Well a b c → ⊥
 wrong_not_well n a b c h = let z : ◌≡◌ {A = ℕ} 0 1 = cc in omega arith
 
@@ -414,9 +424,9 @@ well_is_a_run s a b c h =
     let lines : w.lines ≡ lines_in t ws = sym (lines_written (Heading 0) w.lines (done_alive (come (Heading 0) (map says w.lines)) w.ends)) ∙ ap (map written) same in
     let text : s ≡ text_of t ws = sym (parted_rejoined s) ∙ ap rejoined w.parts ∙ rejoined_whole w.lines ∙ ap as_text lines in
     let told_as : Well a b c ≡ Well t (t + length ws) (length (stretches (Heading 0) (told t ws))) = sym h ∙ ap judged text ∙ text_judged_well t ws r in
-    let start : t ≡ a = cc in
-    let end : b ≡ t + length ws = cc in
-    let many : c ≡ length (stretches (Heading 0) (told t ws)) = cc in
+    let start : t ≡ a = sym (ap (λ o. (whole_in o).start) told_as) in
+    let end : b ≡ t + length ws = ap (λ o. (whole_in o).end) told_as in
+    let many : c ≡ length (stretches (Heading 0) (told t ws)) = ap (λ o. (whole_in o).stretches) told_as in
     record {
       names = ws;
       run = subst (λ n. Run n ws) start r;
@@ -433,8 +443,8 @@ record WrongFrom (r : Reading) (ps : List (List ℕ)) (n : ℕ) : Type 0 where
   alive : is_dead (come r.state (map says (take good (whole ps)))) ≡ false
   dead : good < length (whole ps) → is_dead (come r.state (map says (take (suc good) (whole ps)))) ≡ true
 
-wrong_same : (m n : ℕ) → Wrong m ≡ Wrong n → m ≡ n
-wrong_same m n e = cc
+pub wrong_same : (m n : ℕ) → Wrong m ≡ Wrong n → m ≡ n
+wrong_same m n e = ap line_in e
 
 wrong_parts : (r : Reading) (ps : List (List ℕ)) (n : ℕ) → is_dead r.state ≡ false → judge r ps ≡ Wrong n → WrongFrom r ps n
 unfolding judge come

@@ -1,6 +1,5 @@
 -- The lines as bytes, without their newlines: how each is written, and what a line of any bytes says.
-use Rattle.std.specs.Prelude.{cond, ◌&&◌, List, [], ◌∷◌, ◌++◌, ℕ, suc, ◌-◌, ◌<◌, ◌^◌, leb, eqb, length, get_or, take}
-use Rattle.text.specs.declared.Number.{Number}
+use Rattle.std.specs.Prelude.{cond, ◌&&◌, List, [], ◌∷◌, ◌++◌, ℕ, suc, ◌-◌, ◌<◌, ◌^◌, leb, eqb, length, get_or, take, Option, Some, None}
 use Rattle.text.specs.Text.{spelt}
 use Rattle.text.specs.Numbers.{number_of, bits_of, digits, bits}
 use Rattle.text.specs.Fields.{space, same}
@@ -53,19 +52,19 @@ head_in [] k s = token.Other
 head_in (l ∷ ls) k s = cond (same s l) (token.Head k) (head_in ls (suc k) s)
 
 -- a mark by what follows its first byte
-abbrev pub mark_by : Number → Token
-mark_by (Number.Is t) = token.Mark t
-mark_by Number.Not = token.Other
+abbrev pub mark_by : Option ℕ → Token
+mark_by (Some t) = token.Mark t
+mark_by None = token.Other
 
 -- a number of 32 bits, if it is one
-abbrev pub Narrow : Number → Type 0
-Narrow (Number.Is n) = n < 2 ^ 32
-Narrow Number.Not = Unit {0}
+abbrev pub Narrow : Option ℕ → Type 0
+Narrow (Some n) = n < 2 ^ 32
+Narrow None = Unit {0}
 
 -- a value by its wire and its digits
-abbrev pub value_by : ℕ → Number → Token
-value_by wire (Number.Is n) = cond (eqb wire bang) (token.Job n) (cond (eqb wire quote) (token.Feed n) token.Other)
-value_by wire Number.Not = token.Other
+abbrev pub value_by : ℕ → Option ℕ → Token
+value_by wire (Some n) = cond (eqb wire bang) (token.Job n) (cond (eqb wire quote) (token.Feed n) token.Other)
+value_by wire None = token.Other
 
 -- a value by what follows its first byte: digits, a space and the wire
 unfoldable pub value_of : List ℕ → Token

@@ -1,5 +1,6 @@
 -- A part of a text: the lines that fit into a lent buffer, one after another, and the cursor behind them; and the end of a run.
-use Rattle.std.specs.Prelude.{Bool, cond, not, ◌&&◌, ◌||◌, List, [], ◌∷◌, ◌++◌, ℕ, ◌-◌, leb, ltb, eqb, length}
+use Rattle.std.specs.Prelude.{Bool, cond, not, ◌&&◌, ◌||◌, List, [], ◌∷◌, ◌++◌, ℕ, ◌-◌, leb, ltb, eqb, length, Err}
+use Rattle.answers.specs.declared.Refusal.{Refusal}
 use Rattle.answers.specs.declared.Refusal.TheVariants.{ShortBuffer, NotInOrder}
 use Rattle.answers.specs.Answers.{Line, line, first_of, on_yes}
 use Rattle.waveform.specs.declared.Token.{Token}
@@ -48,6 +49,10 @@ after_closing ls c = cond (eqb (length ls) (length (closing_lines c))) none (wro
 -- a cursor not in order (13), which an empty one is not taken for; a first line that does not fit (11)
 abbrev pub close_stops : ℕ → Cursor → List Line
 close_stops room c = line (not (is_none c || ordered c)) NotInOrder ∷ line (stuck (closing_lines c) (closing_fitting room c)) ShortBuffer ∷ []
+
+-- a cursor that is not closed: it stays as it was, and nothing is written
+abbrev pub refused : Cursor → Refusal → Closed
+refused c r = record { cursor = c; verdict = Err r; bytes = 0 }
 
 -- CLOSING A RUN with so many bytes lent: the cursor, the answer, and how many bytes are written
 unfoldable pub closed_of : ℕ → Cursor → Closed

@@ -1,12 +1,12 @@
 -- The text of a run, every line with its newline; and how a text of any bytes is judged.
-use Rattle.std.specs.Prelude.{◌≡◌, Bool, true, false, cond, List, [], ◌∷◌, ◌++◌, map, ℕ, suc, ◌+◌}
+use Rattle.std.specs.Prelude.{◌≡◌, Bool, true, false, cond, List, [], ◌∷◌, ◌++◌, map, ℕ, suc, ◌+◌, Result, Ok, Err}
 use Rattle.answers.specs.declared.Who.{Who}
 use Rattle.text.specs.Fields.{newline, lines_of}
 use Rattle.waveform.specs.declared.Token.{Token}
 use Rattle.waveform.specs.declared.State.{State}
 use Rattle.waveform.specs.declared.State.TheVariants.{Heading, Opened, Jobbed, Going, Marked, Halfway, Dead}
-use Rattle.waveform.specs.declared.Outcome.{Outcome}
-use Rattle.waveform.specs.declared.Outcome.TheVariants.{Wrong, Well}
+use Rattle.waveform.specs.declared.Whole.{Whole}
+use Rattle.waveform.specs.declared.WrongLine.{WrongLine}
 use Rattle.waveform.specs.Runs.{told, Run}
 use Rattle.waveform.specs.Reading.{next, done}
 use Rattle.waveform.specs.Bytes.{written, says}
@@ -80,6 +80,16 @@ ends_one (Going t j f) = 0
 ends_one (Marked t j f) = 1
 ends_one (Halfway t j f) = 0
 ends_one Dead = 0
+
+-- what is made of a text: the run that it tells whole, or the number of the first line that no text of a run has there
+abbrev pub Outcome : Type 0
+Outcome = Result Whole WrongLine
+
+abbrev pub Well : ℕ → ℕ → ℕ → Outcome
+Well s e n = Ok (record { start = s; end = e; stretches = n })
+
+abbrev pub Wrong : ℕ → Outcome
+Wrong k = Err (record { 0 = k })
 
 -- how far the reading of a text has come: the state, the whole lines before, the start, and the stretches that have ended
 pub record Reading : Type 0 where

@@ -2,14 +2,15 @@
 // It must not know the desk, nor who may run when.
 #![tactic(auto)]
 
-ghost use Rattle.std.specs.Prelude.{◌≡◌, ◌≤◌};
+ghost use Rattle.std.specs.Prelude.{◌≡◌, ◌&&◌, [], Some, None, cond, get_or, leb};
+ghost use Rattle.lists.specs.Lists.{bit};
+ghost use Rattle.feeds.specs.Feeds.{most_feeds};
 ghost use Rattle.waveform.specs.Bytes.{head_lines, head_in, mark_by, Narrow, value_by, value_of, says};
 ghost use Rattle.waveform.specs.Reading.{alone, ran, headed, opens, jobbed, goes_to, halfway, after_feed, turned, through};
 ghost use Rattle.waveform.specs.Reading.{after_heading, after_opened, after_jobbed, after_going, after_marked, after_halfway, next, done};
 ghost use Rattle.waveform.specs.Texts.{is_dead, end_in, start_by, ends_one, judged};
 
 use feeds::Feed;
-use text::{Found, Number};
 use ticks::Instant;
 
 pub mod cursor;
@@ -40,13 +41,20 @@ pub enum State {
     Dead,
 }
 
-// What is made of a text: the number of the first line that no text of a run has there; or, where it ends well, the run's start,
-// its end and how many stretches it has.
+// A text that ends well: the run's start, its end and how many stretches it has.
 #[derive(Clone, Copy)]
-pub enum Outcome {
-    Wrong(usize),
-    Well(u64, u64, usize),
+pub struct Whole {
+    pub start: u64,
+    pub end: u64,
+    pub stretches: usize,
 }
+
+// The number of the first line that no text of a run has there.
+#[derive(Clone, Copy)]
+pub struct WrongLine(pub usize);
+
+// The last instant of the clock, as marks tell it.
+const LAST: u64 = Instant::LAST.0;
 
 impl Token {
     // How many lines stand in front of every run.
@@ -54,273 +62,88 @@ impl Token {
 }
 
 // A mark by what follows its first byte.
-fn mark(number: Number) -> Token
+fn mark(number: Option<u64>) -> Token
     ensures { result ≡ mark_by number }
 {
     match number {
-        Number::Is(t) => Token::Mark(t),
-        Number::Not => Token::Other,
+        Some(t) => Token::Mark(t),
+        None => Token::Other,
     }
 }
 
 // A value by its wire and its digits.
-fn value(wire: u8, number: Number) -> Token
+fn value(wire: u8, number: Option<u64>) -> Token
     requires { Narrow number }
     ensures { result ≡ value_by wire number }
 {
-    let Number::Is(n) = number else {
-        return Token::Other;
-    };
-    if wire == b'!' {
-        return Token::Job(n as u32);
+    match (wire, number) {
+        (b'!', Some(n)) => Token::Job(n as u32),
+        (b'"', Some(n)) => Token::Feed(n as u32),
+        _ => Token::Other,
     }
-    if wire == b'"' {
-        return Token::Feed(n as u32);
-    }
-    Token::Other
 }
 
 // A value by what follows its first byte.
+#[tactic(auto, using(crate::proofs::Plain::bits_narrow), unfolding(crate::specs::Bytes::value_of))]
 fn read_value(s: &[u8]) -> Token
     ensures { result ≡ value_of s.now }
 {
-    if s.len() < 2 {
-        return Token::Other;
+    match s {
+        [digits @ .., b' ', wire] => value(*wire, text::read_bits(digits)),
+        _ => Token::Other,
     }
-    let gap = s.len() - 2;
-    if s[gap] != b' ' {
-        return Token::Other;
-    }
-    let wire = s[s.len() - 1];
-    value(wire, text::read_bits(&s[..gap]))
 }
 
 // Which of the lines in front it is.
 fn read_head(s: &[u8]) -> Token
     ensures { result ≡ head_in head_lines 0 s.now }
 {
-    if text::is_word(s, b"$timescale 1 ms $end") {
-        return Token::Head(0);
-    }
-    if text::is_word(s, b"$scope module desk $end") {
-        return Token::Head(1);
-    }
-    if text::is_word(s, b"$var wire 32 ! job $end") {
-        return Token::Head(2);
-    }
-    if text::is_word(s, b"$var wire 5 \" feed $end") {
-        return Token::Head(3);
-    }
-    if text::is_word(s, b"$upscope $end") {
-        return Token::Head(4);
-    }
-    if text::is_word(s, b"$enddefinitions $end") {
-        return Token::Head(5);
+    for k in 0..Token::HEADS {
+        if s == head(k) {
+            return Token::Head(k);
+        }
     }
     Token::Other
+}
+
+// What a line in front says; nothing where there is none.
+fn head(k: u32) -> &'static [u8]
+    ensures { result.now ≡ get_or head_lines k [] }
+{
+    match k {
+        0 => b"$timescale 1 ms $end",
+        1 => b"$scope module desk $end",
+        2 => b"$var wire 32 ! job $end",
+        3 => b"$var wire 5 \" feed $end",
+        4 => b"$upscope $end",
+        5 => b"$enddefinitions $end",
+        _ => b"",
+    }
 }
 
 // What a line says; the newline at its end is not handed in.
 pub fn read_line(s: &[u8]) -> Token
     ensures { result ≡ says s.now }
 {
-    if s.len() < 1 {
-        return Token::Other;
+    match s {
+        [b'#', number @ ..] => mark(text::read_number(number)),
+        [b'b', value @ ..] => read_value(value),
+        _ => read_head(s),
     }
-    if s[0] == b'#' {
-        return mark(text::read_number(&s[1..]));
-    }
-    if s[0] == b'b' {
-        return read_value(&s[1..]);
-    }
-    read_head(s)
 }
 
 // Never a job and a feed in one tick.
 fn alone(job: u32, feed: u32) -> bool
     ensures { result ≡ alone job feed }
 {
-    if job == 0 {
-        return true;
-    }
-    feed == 0
+    job == 0 || feed == 0
 }
 
-// A stretch begins with these values.
-fn ran(at: u64, job: u32, feed: u32) -> State
-    ensures { result ≡ ran at job feed }
+// Whether these values name whom a tick may go to.
+fn may_go(job: u32, feed: u32) -> bool
+    ensures { result ≡ alone job feed && leb feed most_feeds }
 {
-    if !alone(job, feed) {
-        return State::Dead;
-    }
-    if feed as usize <= Feed::most() {
-        return State::Going(at, job, feed);
-    }
-    State::Dead
-}
-
-// A line in front after so many of them.
-fn headed(heads: u32, head: u32) -> State
-    ensures { result ≡ headed heads head }
-{
-    if head != heads {
-        return State::Dead;
-    }
-    if heads < Token::HEADS {
-        return State::Heading(heads + 1);
-    }
-    State::Dead
-}
-
-// The first mark after so many lines in front.
-fn opens(heads: u32, at: u64) -> State
-    ensures { result ≡ opens heads at }
-{
-    if heads != Token::HEADS {
-        return State::Dead;
-    }
-    if Instant::at(at).within() {
-        return State::Opened(at);
-    }
-    State::Dead
-}
-
-// A later mark.
-fn goes_to(at: u64, job: u32, feed: u32, to: u64) -> State
-    ensures { result ≡ goes_to at job feed to }
-{
-    if !Instant::at(to).is_after(Instant::at(at)) {
-        return State::Dead;
-    }
-    if Instant::at(to).within() {
-        return State::Marked(to, job, feed);
-    }
-    State::Dead
-}
-
-// A new value for the job behind a mark.
-fn halfway(at: u64, job: u32, feed: u32, new: u32) -> State
-    ensures { result ≡ halfway at job feed new }
-{
-    if !Instant::last().is_after(Instant::at(at)) {
-        return State::Dead;
-    }
-    if new == job {
-        return State::Dead;
-    }
-    State::Halfway(at, new, feed)
-}
-
-// A new value for the feed behind one for the job.
-fn after_feed(at: u64, job: u32, feed: u32, new: u32) -> State
-    ensures { result ≡ after_feed at job feed new }
-{
-    if new == feed {
-        return State::Dead;
-    }
-    ran(at, job, new)
-}
-
-fn after_heading(heads: u32, token: Token) -> State
-    ensures { result ≡ after_heading heads token }
-{
-    match token {
-        Token::Head(head) => headed(heads, head),
-        Token::Mark(at) => opens(heads, at),
-        Token::Job(_) => State::Dead,
-        Token::Feed(_) => State::Dead,
-        Token::Other => State::Dead,
-    }
-}
-
-fn after_opened(at: u64, token: Token) -> State
-    ensures { result ≡ after_opened at token }
-{
-    match token {
-        Token::Head(_) => State::Dead,
-        Token::Mark(_) => State::Dead,
-        Token::Job(job) => jobbed(at, job),
-        Token::Feed(_) => State::Dead,
-        Token::Other => State::Dead,
-    }
-}
-
-// The job's value after the first mark.
-fn jobbed(at: u64, job: u32) -> State
-    ensures { result ≡ jobbed at job }
-{
-    if Instant::last().is_after(Instant::at(at)) {
-        return State::Jobbed(at, job);
-    }
-    State::Dead
-}
-
-fn after_jobbed(at: u64, job: u32, token: Token) -> State
-    ensures { result ≡ after_jobbed at job token }
-{
-    match token {
-        Token::Head(_) => State::Dead,
-        Token::Mark(_) => State::Dead,
-        Token::Job(_) => State::Dead,
-        Token::Feed(feed) => ran(at, job, feed),
-        Token::Other => State::Dead,
-    }
-}
-
-fn after_going(at: u64, job: u32, feed: u32, token: Token) -> State
-    ensures { result ≡ after_going at job feed token }
-{
-    match token {
-        Token::Head(_) => State::Dead,
-        Token::Mark(to) => goes_to(at, job, feed, to),
-        Token::Job(_) => State::Dead,
-        Token::Feed(_) => State::Dead,
-        Token::Other => State::Dead,
-    }
-}
-
-fn after_marked(at: u64, job: u32, feed: u32, token: Token) -> State
-    ensures { result ≡ after_marked at job feed token }
-{
-    match token {
-        Token::Head(_) => State::Dead,
-        Token::Mark(_) => State::Dead,
-        Token::Job(new) => halfway(at, job, feed, new),
-        Token::Feed(new) => turned(at, job, feed, new),
-        Token::Other => State::Dead,
-    }
-}
-
-// A new value for the feed behind a mark.
-fn turned(at: u64, job: u32, feed: u32, new: u32) -> State
-    ensures { result ≡ turned at job feed new }
-{
-    if Instant::last().is_after(Instant::at(at)) {
-        return after_feed(at, job, feed, new);
-    }
-    State::Dead
-}
-
-fn after_halfway(at: u64, job: u32, feed: u32, token: Token) -> State
-    ensures { result ≡ after_halfway at job feed token }
-{
-    match token {
-        Token::Head(_) => State::Dead,
-        Token::Mark(to) => through(at, job, feed, to),
-        Token::Job(_) => State::Dead,
-        Token::Feed(new) => after_feed(at, job, feed, new),
-        Token::Other => State::Dead,
-    }
-}
-
-// A mark behind a new value for the job.
-fn through(at: u64, job: u32, feed: u32, to: u64) -> State
-    ensures { result ≡ through at job feed to }
-{
-    if alone(job, feed) {
-        return goes_to(at, job, feed, to);
-    }
-    State::Dead
+    alone(job, feed) && feed as usize <= Feed::MOST
 }
 
 impl State {
@@ -328,14 +151,26 @@ impl State {
     pub fn next(self, token: Token) -> State
         ensures { result ≡ next self token }
     {
-        match self {
-            State::Heading(heads) => after_heading(heads, token),
-            State::Opened(at) => after_opened(at, token),
-            State::Jobbed(at, job) => after_jobbed(at, job, token),
-            State::Going(at, job, feed) => after_going(at, job, feed, token),
-            State::Marked(at, job, feed) => after_marked(at, job, feed, token),
-            State::Halfway(at, job, feed) => after_halfway(at, job, feed, token),
-            State::Dead => State::Dead,
+        use State::{Dead, Going, Halfway, Heading, Jobbed, Marked, Opened};
+        match (self, token) {
+            (Heading(k), Token::Head(head)) if head == k && k < Token::HEADS => Heading(k + 1),
+            (Heading(Token::HEADS), Token::Mark(at)) if at <= LAST => Opened(at),
+            (Opened(at), Token::Job(job)) if at < LAST => Jobbed(at, job),
+            (Jobbed(at, job), Token::Feed(feed)) if may_go(job, feed) => Going(at, job, feed),
+            (Going(at, job, feed), Token::Mark(to)) if at < to && to <= LAST => Marked(
+                to, job, feed,
+            ),
+            (Marked(at, job, feed), Token::Job(new)) if at < LAST && new != job => Halfway(
+                at, new, feed,
+            ),
+            (Marked(at, job, feed), Token::Feed(new))
+                if at < LAST && new != feed && may_go(job, new) => Going(at, job, new),
+            (Halfway(at, job, feed), Token::Mark(to))
+                if alone(job, feed) && at < to && to <= LAST => Marked(to, job, feed),
+            (Halfway(at, job, feed), Token::Feed(new)) if new != feed && may_go(job, new) => Going(
+                at, job, new,
+            ),
+            _ => Dead,
         }
     }
 
@@ -343,29 +178,16 @@ impl State {
     pub fn done(self) -> bool
         ensures { result ≡ done self }
     {
-        match self {
-            State::Heading(_) => false,
-            State::Opened(_) => true,
-            State::Jobbed(_, _) => false,
-            State::Going(_, _, _) => false,
-            State::Marked(_, _, _) => true,
-            State::Halfway(_, _, _) => false,
-            State::Dead => false,
-        }
+        self.end().is_some()
     }
 
-    // The instant at which a text that ends here ends.
-    fn end(self) -> u64
-        ensures { result ≡ end_in self }
+    // The instant at which a text that may end here ends.
+    fn end(self) -> Option<u64>
+        ensures { result ≡ cond (done self) (Some (end_in self)) None }
     {
         match self {
-            State::Heading(_) => 0,
-            State::Opened(at) => at,
-            State::Jobbed(_, _) => 0,
-            State::Going(_, _, _) => 0,
-            State::Marked(at, _, _) => at,
-            State::Halfway(_, _, _) => 0,
-            State::Dead => 0,
+            State::Opened(at) | State::Marked(at, _, _) => Some(at),
+            _ => None,
         }
     }
 
@@ -374,71 +196,54 @@ impl State {
         ensures { result ≡ start_by self start }
     {
         match self {
-            State::Heading(_) => start,
             State::Opened(at) => at,
-            State::Jobbed(_, _) => start,
-            State::Going(_, _, _) => start,
-            State::Marked(_, _, _) => start,
-            State::Halfway(_, _, _) => start,
-            State::Dead => start,
+            _ => start,
         }
     }
 
-    // How many stretches the line before ended.
-    fn ends_one(self) -> usize
-        ensures { (result ≡ ends_one self) × (result ≤ 1) }
+    // Whether the line before ended a stretch.
+    fn ended_one(self) -> bool
+        ensures { bit result ≡ ends_one self }
     {
-        match self {
-            State::Heading(_) => 0,
-            State::Opened(_) => 0,
-            State::Jobbed(_, _) => 0,
-            State::Going(_, _, _) => 0,
-            State::Marked(_, _, _) => 1,
-            State::Halfway(_, _, _) => 0,
-            State::Dead => 0,
-        }
+        matches!(self, State::Marked(..))
     }
 
     // Whether no text of a run begins so.
     pub fn is_dead(self) -> bool
         ensures { result ≡ is_dead self }
     {
-        match self {
-            State::Heading(_) => false,
-            State::Opened(_) => false,
-            State::Jobbed(_, _) => false,
-            State::Going(_, _, _) => false,
-            State::Marked(_, _, _) => false,
-            State::Halfway(_, _, _) => false,
-            State::Dead => true,
-        }
+        matches!(self, State::Dead)
     }
 }
 
 // How a text of any bytes is judged, line by line; what follows its last newline is no whole line.
-pub fn judge(text: &[u8]) -> Outcome
+pub fn judge(text: &[u8]) -> Result<Whole, WrongLine>
     ensures { result ≡ judged text.now }
 {
     let mut state = State::Heading(0);
     let mut lines = 0;
     let mut start = 0;
-    let mut ended = 0;
+    let mut stretches = 0;
     let mut from = 0;
     while from < text.len() {
-        let Found::At(end) = text::line_end(text, from) else {
-            return Outcome::Wrong(lines + 1);
+        let Some(end) = text::line_end(text, from) else {
+            return Err(WrongLine(lines + 1));
         };
         state = state.next(read_line(&text[from..end]));
         lines += 1;
         if state.is_dead() {
-            return Outcome::Wrong(lines);
+            return Err(WrongLine(lines));
         }
         start = state.start_by(start);
-        ended += state.ends_one();
+        stretches += usize::from(state.ended_one());
         from = end + 1;
     }
-    if state.done() {
-        return Outcome::Well(start, state.end(), ended);
+    match state.end() {
+        Some(end) => Ok(Whole {
+            start,
+            end,
+            stretches,
+        }),
+        None => Err(WrongLine(lines + 1)),
     }
-    Outcome::Wrong(lines + 1)
 }

@@ -2,7 +2,7 @@
 ghost use Rattle.std.specs.Prelude.{◌≡◌, not, ◌&&◌, ◌||◌, ◌++◌, ◌-◌, ◌≤◌, eqb, length, drop};
 ghost use Rattle.text.specs.Put.{Put};
 ghost use Rattle.waveform.specs.Order.{ordered, is_none};
-ghost use Rattle.waveform.specs.Parts.{bytes_of, wrote_all, due_fitting, closing_fitting, after_closing, closed_of, closing_bytes};
+ghost use Rattle.waveform.specs.Parts.{bytes_of, wrote_all, due_fitting, closing_fitting, after_closing, refused, closed_of, closing_bytes};
 
 use crate::Token;
 use crate::cursor::Cursor;
@@ -28,10 +28,20 @@ impl Page {
     fn is_stuck(self) -> bool
         ensures { result ≡ eqb self.at 0 && not (is_none self.cursor) }
     {
-        if self.at != 0 {
-            return false;
+        self.at == 0 && !self.cursor.is_none()
+    }
+}
+
+impl Closed {
+    // Nothing is written, and the cursor stays as it was.
+    fn refused(cursor: Cursor, refusal: Refusal) -> Closed
+        ensures { result ≡ refused cursor refusal }
+    {
+        Closed {
+            cursor,
+            verdict: Err(refusal),
+            bytes: 0,
         }
-        !self.cursor.is_none()
     }
 }
 
@@ -39,21 +49,15 @@ impl Page {
 fn can_close(cursor: Cursor) -> bool
     ensures { result ≡ is_none cursor || ordered cursor }
 {
-    if cursor.is_none() {
-        return true;
-    }
-    cursor.in_order()
+    cursor.is_none() || cursor.in_order()
 }
 
 // Writes the lines that are due while they fit.
-pub fn write_due(out: &mut [u8], at: usize, cursor: Cursor) -> Page
+pub fn write_due(out: &mut [u8], mut at: usize, mut cursor: Cursor) -> Page
     requires { at ≤ length out.old }
     ensures { Put out.old out.new at result.at (bytes_of (due_fitting (length out.old - at) cursor)) × (result.cursor ≡ wrote_all (due_fitting (length out.old - at) cursor) cursor) }
 {
-    let mut cursor = cursor;
-    let mut at = at;
-    while cursor.due.any() {
-        let line = cursor.first();
+    while let Some(line) = cursor.first() {
         if out.len() - at < crate::put::width(line) {
             break;
         }
@@ -69,7 +73,7 @@ fn write_end(out: &mut [u8], cursor: Cursor) -> Page
 {
     if cursor.is_none() {
         return Page {
-            cursor: Cursor::none(),
+            cursor: Cursor::NONE,
             at: 0,
         };
     }
@@ -77,21 +81,19 @@ fn write_end(out: &mut [u8], cursor: Cursor) -> Page
     if page.cursor.due.any() {
         return page;
     }
-    let at = page.at;
     if !cursor.ran {
         return Page {
-            cursor: Cursor::none(),
-            at,
+            cursor: Cursor::NONE,
+            ..page
         };
     }
     let last = Token::Mark(cursor.clock);
-    if out.len() - at < crate::put::width(last) {
+    if out.len() - page.at < crate::put::width(last) {
         return page;
     }
-    let end = crate::put::line(out, at, last);
     Page {
-        cursor: Cursor::none(),
-        at: end,
+        cursor: Cursor::NONE,
+        at: crate::put::line(out, page.at, last),
     }
 }
 
@@ -100,25 +102,15 @@ pub fn close(cursor: Cursor, out: &mut [u8]) -> Closed
     ensures { (result ≡ closed_of (length out.old) cursor) × (out.new ≡ closing_bytes (length out.old) cursor ++ drop (length (closing_bytes (length out.old) cursor)) out.old) }
 {
     if !can_close(cursor) {
-        return Closed {
-            cursor,
-            verdict: Verdict::No(Refusal::NotInOrder),
-            bytes: 0,
-        };
+        return Closed::refused(cursor, Refusal::NotInOrder);
     }
     let page = write_end(out, cursor);
     if page.is_stuck() {
-        return Closed {
-            cursor,
-            verdict: Verdict::No(Refusal::ShortBuffer),
-            bytes: 0,
-        };
+        return Closed::refused(cursor, Refusal::ShortBuffer);
     }
-    let bytes = page.at;
-    let after = page.cursor;
     Closed {
-        cursor: after,
-        verdict: Verdict::Yes,
-        bytes,
+        cursor: page.cursor,
+        verdict: Ok(()),
+        bytes: page.at,
     }
 }

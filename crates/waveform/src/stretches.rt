@@ -2,11 +2,10 @@
 // mark that ends the next stretch.
 ghost use Rattle.std.specs.Prelude.{◌≡◌};
 ghost use Rattle.waveform.specs.Reading.{who_by};
-ghost use Rattle.waveform.specs.Telling.{since_in, job_in, feed_in, behind, ending_at, stands_at, next_told};
+ghost use Rattle.waveform.specs.Telling.{since_in, behind, ending_at, stands_at, next_told};
 
 use crate::State;
 use answers::Who;
-use text::Found;
 
 // Where the reading of a text stands: the place of the next byte, how many whole lines are before it, the instant of the mark that
 // is the last of them, and the values of the two wires before that mark. The place 0 is the front, whatever the rest says.
@@ -42,13 +41,11 @@ pub enum Told {
 fn who_by(job: u32, feed: u32) -> Who
     ensures { result ≡ who_by job feed }
 {
-    if job != 0 {
-        return Who::Job(job);
+    match (job, feed) {
+        (0, 0) => Who::Idle,
+        (0, feed) => Who::Feed(feed),
+        (job, _) => Who::Job(job),
     }
-    if feed != 0 {
-        return Who::Feed(feed);
-    }
-    Who::Idle
 }
 
 // Since when the stretch goes that a mark can end.
@@ -56,42 +53,8 @@ fn since(state: State) -> u64
     ensures { result ≡ since_in state }
 {
     match state {
-        State::Heading(_) => 0,
-        State::Opened(_) => 0,
-        State::Jobbed(_, _) => 0,
-        State::Going(at, _, _) => at,
-        State::Marked(_, _, _) => 0,
-        State::Halfway(at, _, _) => at,
-        State::Dead => 0,
-    }
-}
-
-// The values of the two wires before a mark.
-fn job_before(state: State) -> u32
-    ensures { result ≡ job_in state }
-{
-    match state {
-        State::Heading(_) => 0,
-        State::Opened(_) => 0,
-        State::Jobbed(_, _) => 0,
-        State::Going(_, _, _) => 0,
-        State::Marked(_, job, _) => job,
-        State::Halfway(_, _, _) => 0,
-        State::Dead => 0,
-    }
-}
-
-fn feed_before(state: State) -> u32
-    ensures { result ≡ feed_in state }
-{
-    match state {
-        State::Heading(_) => 0,
-        State::Opened(_) => 0,
-        State::Jobbed(_, _) => 0,
-        State::Going(_, _, _) => 0,
-        State::Marked(_, _, feed) => feed,
-        State::Halfway(_, _, _) => 0,
-        State::Dead => 0,
+        State::Going(at, _, _) | State::Halfway(at, _, _) => at,
+        _ => 0,
     }
 }
 
@@ -99,24 +62,42 @@ fn feed_before(state: State) -> u32
 fn behind(state: State, place: usize, lines: usize) -> Bookmark
     ensures { result ≡ behind state place lines }
 {
-    Bookmark {
+    let here = Bookmark {
         place,
         lines,
-        at: state.end(),
-        job: job_before(state),
-        feed: feed_before(state),
+        ..Bookmark::FRONT
+    };
+    match state {
+        State::Opened(at) => Bookmark { at, ..here },
+        State::Marked(at, job, feed) => Bookmark {
+            at,
+            job,
+            feed,
+            ..here
+        },
+        _ => here,
     }
 }
 
 impl Bookmark {
+    // Where every reading begins.
+    pub const FRONT: Bookmark = Bookmark {
+        place: 0,
+        lines: 0,
+        at: 0,
+        job: 0,
+        feed: 0,
+    };
+
     // How far the text has come where it stands.
     fn state(self) -> State
         ensures { result ≡ stands_at self }
     {
         if self.place == 0 {
-            return State::Heading(0);
+            State::Heading(0)
+        } else {
+            State::Marked(self.at, self.job, self.feed)
         }
-        State::Marked(self.at, self.job, self.feed)
     }
 
     // The stretch that ended at its mark.
@@ -135,17 +116,14 @@ impl Bookmark {
 pub fn next(text: &[u8], mark: Bookmark) -> Told
     ensures { result ≡ next_told text.now mark }
 {
-    if mark.place < mark.lines {
-        return Told::Disorder;
-    }
-    if text.len() < mark.place {
+    if mark.place < mark.lines || text.len() < mark.place {
         return Told::Disorder;
     }
     let mut state = mark.state();
     let mut lines = mark.lines;
     let mut place = mark.place;
     while place < text.len() {
-        let Found::At(end) = text::line_end(text, place) else {
+        let Some(end) = text::line_end(text, place) else {
             return Told::Wrong(lines + 1);
         };
         let from = since(state);
@@ -155,13 +133,14 @@ pub fn next(text: &[u8], mark: Bookmark) -> Told
         if state.is_dead() {
             return Told::Wrong(lines);
         }
-        if state.ends_one() == 1 {
+        if state.ended_one() {
             let here = behind(state, place, lines);
             return Told::Next(here.ended(from), here);
         }
     }
     if state.done() {
-        return Told::Over(behind(state, place, lines));
+        Told::Over(behind(state, place, lines))
+    } else {
+        Told::Wrong(lines + 1)
     }
-    Told::Wrong(lines + 1)
 }

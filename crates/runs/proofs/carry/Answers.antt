@@ -1,6 +1,6 @@
 -- `runs::carry` meets its contract: before each turn so many steps are taken and their lines written, and the others are left.
 use mathlib.Core.Path.{◌≡◌, sym, ap, ◌∙◌}
-use mathlib.Core.Bool.{true}
+use mathlib.Core.Bool.{true, not}
 use native.Mathlib.Omega.{arith}
 use Rattle.text.proofs.Texts.{put_length}
 use Rattle.answers.specs.Answers.{is_yes}
@@ -18,7 +18,7 @@ loop-steps-init c =
 
 pub stepped-requires : goal.stepped-requires
 stepped-requires c =
-    let taken : is_yes c.step-stepped.result.verdict ≡ true = sym c.is_yes.ensures ∙ c.if-not-is_yes.false in
+    let taken : is_yes c.step-stepped.result.verdict ≡ true = c.is_err.ensures.negation ∙ ap not c.if-is_err.false in
     let l = c.loop-steps in
     let d = l.desk in
     let k : l.page.cursor.clock ≡ clock_of d = l.invariant.clock in
@@ -26,7 +26,7 @@ stepped-requires c =
 
 pub loop-steps-preserved : goal.loop-steps-preserved
 loop-steps-preserved c =
-    let taken : is_yes c.step-stepped.result.verdict ≡ true = sym c.is_yes.ensures ∙ c.if-not-is_yes.false in
+    let taken : is_yes c.step-stepped.result.verdict ≡ true = c.is_err.ensures.negation ∙ ap not c.if-is_err.false in
     one_more c.loop-steps.invariant c.loop-steps-test.true (sym c.any.ensures ∙ c.if-any.false) c.step-stepped.ensures taken c.stepped.ensures c.write_due-page-in-loop-steps.ensures.0 c.write_due-page-in-loop-steps.ensures.1
 
 pub returns-after-loop-steps : goal.returns-after-loop-steps
@@ -42,10 +42,10 @@ returns-then-any c =
     let due = sym c.any.ensures ∙ c.if-any.true in
     finished a.out.now a.most a.desk a.cursor c.write_due-page.ensures g (λ xs h. part_done g xs h (due_stops _ due))
 
-pub returns-then-not-is_yes : goal.returns-then-not-is_yes
-returns-then-not-is_yes c =
+pub returns-then-is_err : goal.returns-then-is_err
+returns-then-is_err c =
     let a = c.args in
     let g = c.loop-steps.invariant in
     let still = sym c.any.ensures ∙ c.if-any.false in
-    let no = ap (λ x. is_yes x.verdict) (sym c.step-stepped.ensures) ∙ sym c.is_yes.ensures ∙ c.if-not-is_yes.true in
+    let no = ap (λ x. is_yes x.verdict) (sym c.step-stepped.ensures) ∙ c.is_err.ensures.negation ∙ ap not c.if-is_err.true in
     finished a.out.now a.most a.desk a.cursor c.write_due-page.ensures g (λ xs h. part_done g xs h (refusal_stops _ still no))

@@ -6,7 +6,7 @@ use lib.Dec.{eqb}
 use lib.ListN.{length}
 use Rattle.lists.proofs.Tests.{both}
 use Rattle.text.proofs.Texts.{put_in_front, put_in_front_next, front_untouched}
-use Rattle.answers.specs.declared.Verdict.TheVariants.{Yes}
+use Rattle.std.specs.Prelude.{Ok}
 use Rattle.answers.specs.declared.Refusal.TheVariants.{ShortBuffer, NotInOrder}
 use Rattle.answers.proofs.Answers.{stops, goes_on_lem, no_line}
 use Rattle.desk.specs.State.{in_order}
@@ -56,4 +56,4 @@ returns c =
     let a = c.args in
     let p = c.carry-going.ensures in
     let k = went_yes (length a.out.now) a.most a.desk a.cursor (goes_on_lem _ _ _ fine (goes_on_lem _ _ _ there (goes_on_lem _ _ _ (short ∙ c.if-is_stuck.false) no_line))) in
-    ((λ i. record { desk = p.desk i; cursor = p.cursor i; verdict = Yes; bytes = put_in_front_next p.put i; steps = p.steps i }) ∙ k.0, put_in_front p.put k.1)
+    ((λ i. record { desk = p.desk i; cursor = p.cursor i; verdict = Ok tt; bytes = put_in_front_next p.put i; steps = p.steps i }) ∙ k.0, put_in_front p.put k.1)

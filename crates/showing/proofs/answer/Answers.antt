@@ -4,8 +4,8 @@ use Rattle.std.proofs.lemmas.Result.{IfOk-weaker}
 use Rattle.showing.proofs.Telling.{none_yet, answered_wrong, answered_well}
 use Rattle.showing.proofs.answer.Goals as goal
 
-pub returns-in-Wrong-clause-told : goal.returns-in-Wrong-clause-told
-returns-in-Wrong-clause-told g c = IfOk-weaker c.tell.result _ _ (λ at t. (search (rules, t), answered_wrong _ _ _ _ (sym c.in-Wrong.ensures) (t.1 _ (none_yet _)))) c.tell.ensures.told
+pub returns-in-Err-clause-told : goal.returns-in-Err-clause-told
+returns-in-Err-clause-told g c = IfOk-weaker c.tell.result _ _ (λ at t. (search (rules, t), answered_wrong _ _ _ _ (sym c.in-Err.ensures) (t.1 _ (none_yet _)))) c.tell.ensures.told
 
-pub returns-in-Well-clause-told : goal.returns-in-Well-clause-told
-returns-in-Well-clause-told g c = IfOk-weaker c.tell_run.result _ _ (λ at t. (search (rules, t), answered_well _ _ _ _ _ _ (sym c.in-Well.ensures) t.1)) c.tell_run.ensures.told
+pub returns-in-Ok-clause-told : goal.returns-in-Ok-clause-told
+returns-in-Ok-clause-told g c = IfOk-weaker c.tell_run.result _ _ (λ at t. (search (rules, t), answered_well _ _ _ _ _ _ (sym c.in-Ok.ensures) t.1)) c.tell_run.ensures.told

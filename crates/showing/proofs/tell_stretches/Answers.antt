@@ -4,27 +4,20 @@ use Rattle.waveform.proofs.Onward.{next_gets_on}
 use Rattle.showing.proofs.Telling.{left_next, listed}
 use Rattle.showing.proofs.tell_stretches.Goals as goal
 
-pub loop-mark-smaller : goal.loop-mark-smaller
-loop-mark-smaller g c =
-    let on = next_gets_on c.args.text.now c.loop-mark.mark c.in-Next.ran c.in-Next.on (sym c.in-Next.ensures) in
+pub loop-ran-smaller : goal.loop-ran-smaller
+loop-ran-smaller g c =
+    let on = next_gets_on c.args.text.now c.loop-ran.mark c.in-Next.ran c.in-Next.on (sym c.in-Next.ensures) in
     omega (arith, on.further, on.inside)
 
-pub loop-mark-preserved : goal.loop-mark-preserved
-loop-mark-preserved g c =
+pub loop-ran-preserved : goal.loop-ran-preserved
+loop-ran-preserved g c =
     let t = c.in_ok-at.ensures.told in
-    let before = c.loop-mark.invariant in
-    (search rules, omega (arith, t.0, before.0), λ last all k. left_next c.args.text.now last all c.loop-mark.mark c.in-Next.on c.in-Next.ran (sym c.in-Next.ensures) t.1 (before.2 last all k))
+    let before = c.loop-ran.invariant in
+    (search rules, omega (arith, t.0, before.0), λ last all k. left_next c.args.text.now last all c.loop-ran.mark c.in-Next.on c.in-Next.ran (sym c.in-Next.ensures) t.1 (before.2 last all k))
 
--- at the end of the text no stretch is told
-pub returns-after-loop-mark-clause-told : goal.returns-after-loop-mark-clause-told
-returns-after-loop-mark-clause-told g c = (
-  c.loop-mark.invariant.1,
-  listed c.args.text.now _ _ _ _ c.loop-mark.mark c.loop-mark.invariant.2 (λ x m e. let on = next_gets_on c.args.text.now c.loop-mark.mark x m e in omega (arith, on.further, on.inside, c.loop-mark-test.false)),
-)
-
--- where something else is told, none is
-pub returns-in_default-clause-told : goal.returns-in_default-clause-told
-returns-in_default-clause-told g c = (
-  c.loop-mark.invariant.1,
-  listed c.args.text.now _ _ _ _ c.loop-mark.mark c.loop-mark.invariant.2 (λ x m e. c.in_default.not-Next x m (c.next.ensures ∙ e)),
+-- where something else is told, no stretch is
+pub returns-clause-told : goal.returns-clause-told
+returns-clause-told g c = (
+  c.loop-ran.invariant.1,
+  listed c.args.text.now _ _ _ _ c.loop-ran.mark c.loop-ran.invariant.2 (λ x m e. c.in_default.not-Next x m (c.next.ensures ∙ e)),
 )

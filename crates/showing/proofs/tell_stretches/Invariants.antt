@@ -3,8 +3,8 @@ use Rattle.std.proofs.Common.{◌≡◌, ◌-◌, ◌≤◌, length}
 use Rattle.showing.proofs.Telling.{Onward}
 use Rattle.showing.proofs.tell_stretches.Given as goal
 
-abbrev pub invariant-loop-mark : goal.invariant-loop-mark
-invariant-loop-mark g l = (length l.out ≡ length l.initial.out) × (l.at ≤ length l.initial.out) × Onward l.text l.initial.out l.initial.at l.out l.at l.mark
+abbrev pub invariant-loop-ran : goal.invariant-loop-ran
+invariant-loop-ran g l = (length l.out ≡ length l.initial.out) × (l.at ≤ length l.initial.out) × Onward l.text l.initial.out l.initial.at l.out l.at l.mark
 
-abbrev pub decreases-loop-mark : goal.decreases-loop-mark
-decreases-loop-mark g l = length l.text - l.mark.place
+abbrev pub decreases-loop-ran : goal.decreases-loop-ran
+decreases-loop-ran g l = length l.text - l.mark.place

@@ -1,34 +1,31 @@
 -- `waveform::read_line` meets its contract: by its first byte.
-use mathlib.Core.Path.{sym, ap, ◌∙◌}
-use mathlib.Core.Bool.{cond}
-use lib.Dec.{eqb}
-use lib.ListN.{get_or, drop}
-use borrow.Author.Tests.{eq-eqb, ne_eqb}
+use mathlib.Core.Path.{◌≡◌, ap, ◌∙◌}
+use Prim.Native.Nat.{◌≤◌}
+use native.Mathlib.Omega.{arith}
+use lib.ListN.{length, get_or, get_or-eq_default}
+use borrow.Author.Tests.{ltb-true}
 use Rattle.text.specs.Numbers.{number_of}
 use Rattle.text.proofs.Fields.{rest_part}
-use Rattle.waveform.specs.Bytes.{hash, bee, head_lines, head_in, mark_by, value_of}
-use Rattle.waveform.proofs.Bytes.{says_none, says_first}
+use Rattle.waveform.specs.Bytes.{hash, bee, mark_by, value_of}
+use Rattle.waveform.proofs.Bytes.{says_mark, says_value, says_head}
 use Rattle.waveform.proofs.read_line.Goals as goal
+use Rattle.waveform.proofs.read_line.Goals.{in_default-via-then-s-lt1, in_default-via-else-s-lt1+in_default-1}
 
-pub returns-then-s-lt1 : goal.returns-then-s-lt1
-returns-then-s-lt1 c = sym (says_none c.args.s.now c.if-s-lt1.true)
+pub returns-in-35 : goal.returns-in-35
+returns-in-35 c =
+    let first : get_or c.args.s.now 0 0 ≡ hash = omega arith in
+    c.mark.ensures ∙ ap mark_by (c.read_number.ensures ∙ ap number_of (rest_part c.args.s.now 1)) ∙ says_mark c.args.s.now first
 
-pub returns-then-s-eq35 : goal.returns-then-s-eq35
-returns-then-s-eq35 c =
+pub returns-in-98 : goal.returns-in-98
+returns-in-98 c =
+    let first : get_or c.args.s.now 0 0 ≡ bee = omega arith in
+    c.read_value.ensures ∙ ap value_of (rest_part c.args.s.now 1) ∙ says_value c.args.s.now first
+
+pub returns-in_default : goal.returns-in_default
+returns-in_default c =
     let s = c.args.s.now in
-    c.mark.ensures
-    ∙ ap mark_by (c.read_number.ensures ∙ ap number_of (rest_part s 1))
-    ∙ sym (says_first s c.if-s-lt1.false ∙ ap (λ b. cond b (mark_by (number_of (drop 1 s))) (cond (eqb (get_or s 0 0) bee) (value_of (drop 1 s)) (head_in head_lines 0 s))) (eq-eqb _ _ c.if-s-eq35.true))
-
-pub returns-then-s-eq98 : goal.returns-then-s-eq98
-returns-then-s-eq98 c =
-    let s = c.args.s.now in
-    c.read_value.ensures
-    ∙ ap value_of (rest_part s 1)
-    ∙ sym (says_first s c.if-s-lt1.false ∙ (λ i. cond (ne_eqb (get_or s 0 0) hash c.if-s-eq35.false i) (mark_by (number_of (drop 1 s))) (cond (eq-eqb (get_or s 0 0) bee c.if-s-eq98.true i) (value_of (drop 1 s)) (head_in head_lines 0 s))))
-
-pub returns : goal.returns
-returns c =
-    let s = c.args.s.now in
-    c.read_head.ensures
-    ∙ sym (says_first s c.if-s-lt1.false ∙ (λ i. cond (ne_eqb (get_or s 0 0) hash c.if-s-eq35.false i) (mark_by (number_of (drop 1 s))) (cond (ne_eqb (get_or s 0 0) bee c.if-s-eq98.false i) (value_of (drop 1 s)) (head_in head_lines 0 s))))
+    let none : (get_or c.args.s.now 0 0 ≡ hash → ⊥) × (get_or c.args.s.now 0 0 ≡ bee → ⊥) = elim c.in_default.branch [
+      | in_default-via-then-s-lt1 w ↦ let short : length c.args.s.now ≤ 0 = omega (arith, ltb-true) in let z = get_or-eq_default c.args.s.now 0 short in (λ e. omega (arith, e, z), λ e. omega (arith, e, z))
+      | in_default-via-else-s-lt1+in_default-1 w ↦ (λ e. omega (arith, e), λ e. omega (arith, e))
+    ] in
+    c.read_head.ensures ∙ says_head s none.0 none.1

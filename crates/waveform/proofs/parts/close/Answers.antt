@@ -3,7 +3,7 @@ use mathlib.Core.Path.{◌≡◌, sym, ap, ◌∙◌}
 use mathlib.Core.Bool.{false, not, ◌&&◌, ◌||◌}
 use lib.Dec.{eqb}
 use lib.ListN.{length}
-use Rattle.answers.specs.declared.Verdict.TheVariants.{Yes}
+use Rattle.std.specs.Prelude.{Ok}
 use Rattle.answers.specs.declared.Refusal.TheVariants.{ShortBuffer, NotInOrder}
 use Rattle.answers.proofs.Answers.{stops, goes_on_lem, no_line}
 use Rattle.text.proofs.Texts.{put_in_front, put_in_front_next, front_untouched}
@@ -17,7 +17,7 @@ returns-then-not-can_close c =
     let a = c.args in
     let n = length a.out.now in
     let k = closed_no n a.cursor NotInOrder (stops _ _ (ap not (sym c.can_close.ensures ∙ c.if-not-can_close.true))) in
-    (k.0, front_untouched k.1)
+    (c.refused.ensures ∙ k.0, front_untouched k.1)
 
 pub returns-then-is_stuck : goal.returns-then-is_stuck
 returns-then-is_stuck c =
@@ -33,7 +33,7 @@ returns-then-is_stuck c =
     let n = length a.out.now in
     let stop = short ∙ c.if-is_stuck.true in
     let k = closed_no n a.cursor ShortBuffer (goes_on_lem _ _ _ fine (stops _ _ stop)) in
-    (k.0, put_in_front c.write_end-page.ensures.0 (stuck_nothing _ _ stop ∙ k.1))
+    (c.refused-then-is_stuck.ensures ∙ k.0, put_in_front c.write_end-page.ensures.0 (stuck_nothing _ _ stop ∙ k.1))
 
 pub returns : goal.returns
 returns c =
@@ -49,4 +49,4 @@ returns c =
     let n = length a.out.now in
     let w = c.write_end-page.ensures in
     let k = closed_yes n a.cursor (goes_on_lem _ _ _ fine (goes_on_lem _ _ _ (short ∙ c.if-is_stuck.false) no_line)) in
-    ((λ i. record { cursor = w.1 i; verdict = Yes; bytes = put_in_front_next w.0 i }) ∙ k.0, put_in_front w.0 k.1)
+    ((λ i. record { cursor = w.1 i; verdict = Ok tt; bytes = put_in_front_next w.0 i }) ∙ k.0, put_in_front w.0 k.1)

@@ -12,7 +12,7 @@ use Rattle.waveform.specs.declared.cursor.Cursor.{Cursor}
 use Rattle.waveform.specs.Texts.{as_line}
 use Rattle.waveform.specs.Cursors.{any_due, first_due, due_lines, wrote}
 use Rattle.waveform.specs.Parts.{bytes_of, wrote_all, due_fitting}
-use Rattle.waveform.proofs.Cursors.{due_first}
+use Rattle.waveform.proofs.Cursors.{due_first, first_some, first_none}
 use Rattle.waveform.proofs.Fitting.{bytes_append, bytes_one, wrote_append, wrote_one, due_fits, due_fits_not, none_fits}
 use Rattle.waveform.proofs.parts.write_due.Invariants.{Going}
 use Rattle.waveform.proofs.parts.write_due.Goals as goal
@@ -50,20 +50,22 @@ loop-line-init c = record { done = []; put = put_nothing c.args.out.now c.args.a
 pub loop-line-smaller : goal.loop-line-smaller
 loop-line-smaller c =
     let b = c.loop-line.cursor in
-    let due : any_due b.due ≡ true = sym c.any.ensures ∙ c.loop-line-test.true in
+    let due : any_due b.due ≡ true = (first_some b (sym c.in-Some.is ∙ c.first.ensures)).0 in
     let one : length (due_lines b) ≡ length (first_due b ∷ due_lines c.wrote-cursor.result) = ap length (due_first b due ∙ ap (λ a. first_due b ∷ due_lines a) (sym c.wrote-cursor.ensures)) in
     omega (arith, one)
 
 pub loop-line-preserved : goal.loop-line-preserved
 loop-line-preserved c =
-    more c.loop-line.invariant c.first-line.ensures c.wrote-cursor.ensures (sym c.any.ensures ∙ c.loop-line-test.true) c.line-at.ensures
+    let f = first_some c.loop-line.cursor (sym c.in-Some.is ∙ c.first.ensures) in
+    more c.loop-line.invariant f.1 c.wrote-cursor.ensures f.0 c.line-at.ensures
 
-pub returns-after-loop-line : goal.returns-after-loop-line
-returns-after-loop-line c =
-    whole c.loop-line.invariant (none_fits _ c.loop-line.cursor (sym c.any.ensures ∙ c.loop-line-test.false))
+pub returns-in_default : goal.returns-in_default
+returns-in_default c =
+    whole c.loop-line.invariant (none_fits _ c.loop-line.cursor (first_none c.loop-line.cursor (sym c.in_default.is ∙ c.first.ensures)))
 
 pub returns-then-out-at : goal.returns-then-out-at
 returns-then-out-at c =
     let l = c.loop-line in
-    let w : c.width.result ≡ length (as_line (first_due l.cursor)) = c.width.ensures ∙ ap (λ x. length (as_line x)) c.first-line.ensures in
-    whole l.invariant (due_fits_not _ l.cursor (sym c.any.ensures ∙ c.loop-line-test.true) (omega (arith, w, c.if-out-at.true, put_length l.invariant.put)))
+    let f = first_some l.cursor (sym c.in-Some.is ∙ c.first.ensures) in
+    let w : c.width.result ≡ length (as_line (first_due l.cursor)) = c.width.ensures ∙ ap (λ x. length (as_line x)) f.1 in
+    whole l.invariant (due_fits_not _ l.cursor f.0 (omega (arith, w, c.if-out-at.true, put_length l.invariant.put)))

@@ -18,7 +18,7 @@ pub record Going (d : List ℕ) (from : ℕ) (b c : Cursor) (e : List ℕ) (at :
   pub left : due_fitting (length d - from) b ≡ done ++ due_fitting (length d - at) c
 
 abbrev pub invariant-loop-line : goal.invariant-loop-line
-invariant-loop-line l = Going l.initial.out l.at-2 l.initial.cursor l.cursor l.out l.at
+invariant-loop-line l = Going l.initial.out l.initial.at l.initial.cursor l.cursor l.out l.at
 
 abbrev pub decreases-loop-line : goal.decreases-loop-line
 decreases-loop-line l = length (due_lines l.cursor)

@@ -1,5 +1,5 @@
 -- `waveform::parts::write_end` meets its contract: what is due, then the mark at the end.
-use mathlib.Core.Path.{◌≡◌, sym, ap, subst, ◌∙◌}
+use mathlib.Core.Path.{◌≡◌, refl, sym, ap, subst, ◌∙◌}
 use mathlib.Core.Bool.{Bool}
 use mathlib.Core.List.{List, [], ◌∷◌, ◌++◌}
 use Prim.Native.Nat.{ℕ, ◌-◌}
@@ -40,7 +40,7 @@ pub returns-then-is_none : goal.returns-then-is_none
 unfolding bytes_of
 returns-then-is_none c =
     let a = c.args in
-    ended (closes_none (length a.out.now) a.cursor (sym c.is_none.ensures ∙ c.if-is_none.true)) (put_nothing a.out.now 0 (omega arith)) c.none.ensures
+    ended (closes_none (length a.out.now) a.cursor (sym c.is_none.ensures ∙ c.if-is_none.true)) (put_nothing a.out.now 0 (omega arith)) refl
 
 pub returns-then-any : goal.returns-then-any
 returns-then-any c =
@@ -56,17 +56,17 @@ returns-then-not-cursor c =
     let n = length a.out.now in
     let p = from_front n a.cursor c.write_due-page.ensures in
     let live = sym c.is_none.ensures ∙ c.if-is_none.false in
-    ended (closes_still n a.cursor live (due n a.cursor p c.any.ensures ∙ c.if-any.false) (not-true _ c.if-not-cursor.true)) p.0 c.none-then-not-cursor.ensures
+    ended (closes_still n a.cursor live (due n a.cursor p c.any.ensures ∙ c.if-any.false) (not-true _ c.if-not-cursor.true)) p.0 refl
 
-pub returns-then-out-at : goal.returns-then-out-at
-returns-then-out-at c =
+pub returns-then-out-page : goal.returns-then-out-page
+returns-then-out-page c =
     let a = c.args in
     let n = length a.out.now in
     let p = from_front n a.cursor c.write_due-page.ensures in
     let live = sym c.is_none.ensures ∙ c.if-is_none.false in
     ended
     (closes_unmarked n a.cursor live (due n a.cursor p c.any.ensures ∙ c.if-any.false) (not-false _ c.if-not-cursor.false)
-    (omega (arith, c.if-out-at.true, c.width.ensures, p.0.next, put_length p.0)))
+    (omega (arith, c.if-out-page.true, c.width.ensures, p.0.next, put_length p.0)))
     p.0
     p.1
 
@@ -81,6 +81,6 @@ returns c =
     let bytes = ap (bytes_of fit ++◌) (sym (bytes_one end)) ∙ sym (bytes_append fit (end ∷ [])) in
     ended
     (closes_marked n a.cursor live (due n a.cursor p c.any.ensures ∙ c.if-any.false) (not-false _ c.if-not-cursor.false)
-    (omega (arith, c.if-out-at.false, c.width.ensures, p.0.next, put_length p.0)))
-    (subst (Put a.out.now _ 0 _) bytes (put_after p.0 c.line-end.ensures))
-    c.none-2.ensures
+    (omega (arith, c.if-out-page.false, c.width.ensures, p.0.next, put_length p.0)))
+    (subst (Put a.out.now _ 0 _) bytes (put_after p.0 c.line.ensures))
+    refl
