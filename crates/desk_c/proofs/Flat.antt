@@ -4,12 +4,11 @@ use mathlib.Core.List.{List}
 use Prim.Native.Nat.{ℕ, ◌≤◌}
 use native.Mathlib.Omega.{arith}
 use lib.ListN.{length, take, drop, take-append-drop, length-append}
-use Rattle.jobs.specs.declared.Table.{Table}
 use Rattle.jobs.specs.Jobs.{most_jobs, live}
 use Rattle.desk.specs.declared.Desk.{Desk}
-use Rattle.answers.specs.declared.Verdict.{Verdict}
-use Rattle.answers.specs.declared.Verdict.TheVariants.{Yes, No}
-use Rattle.answers.specs.Answers.{first_of, on_yes}
+use Rattle.std.specs.Prelude.{Ok}
+use Rattle.answers.specs.Answers.{first_of}
+use Rattle.answers.proofs.Answers.{told_yes}
 use Rattle.desk.specs.Calls.{list_lines, counted_of}
 use Rattle.desk.proofs.Asking.{asked_once}
 use Rattle.desk.proofs.Undated.{asked_undated_once}
@@ -20,16 +19,12 @@ use Rattle.desk_c.specs.declared.Reason.{Reason}
 use Rattle.desk_c.specs.Flat.{flat_answer, flat_why, AskedFlat, AskedMeshFlat, AskedUndatedFlat, WhyFlat}
 
 -- no more jobs are listed than there are places
-pub few_counted : (d : Desk) (size : ℕ) → length d.ledger.table.jobs ≡ most_jobs → (counted_of d size).count ≤ most_jobs
+pub few_counted : (d : Desk) (size count : ℕ) → length d.ledger.table.jobs ≡ most_jobs → counted_of d size ≡ Ok count → count ≤ most_jobs
 unfolding counted_of
-few_counted d size long = go (first_of (list_lines d size))
-  where
-    table : Table
-    table = d.ledger.table
-
-    go : (v : Verdict) → on_yes v (length (live table)) 0 ≤ most_jobs
-    go Yes = omega (arith, long, sym (length-append (take table.count table.jobs) (drop table.count table.jobs)) ∙ ap length (take-append-drop table.count table.jobs))
-    go (No r) = omega arith
+few_counted d size count long e =
+    let table = d.ledger.table in
+    let counts = (told_yes (first_of (list_lines d size)) (length (live table)) count e).1 in
+    omega (arith, long, counts, sym (length-append (take table.count table.jobs) (drop table.count table.jobs)) ∙ ap length (take-append-drop table.count table.jobs))
 
 -- TWO OUTCOMES THAT THE CONTRACT OF ASKING ALLOWS ARE THE SAME
 pub asked_flat_once : (d : Desk) (number work lead : ℕ) (r s : Answer) → AskedFlat d number work lead r → AskedFlat d number work lead s → r ≡ s

@@ -1,12 +1,14 @@
 -- The desk's answers as flat numbers: 0 for yes, else the refusal's number; the values of each case beside it.
-use Rattle.std.specs.Prelude.{◌≡◌, List, ℕ}
+use Rattle.std.specs.Prelude.{◌≡◌, Result, Ok, Err, List, ℕ}
+use Rattle.listing.specs.declared.Lent.{Lent}
+use Rattle.listing.specs.declared.Lent.TheVariants.{Jobs, Feeds}
 use Rattle.listing.specs.declared.Part.{Part}
 use Rattle.desk.specs.declared.Desk.{Desk}
 use Rattle.desk.specs.declared.Answer as answer
 use Rattle.desk.specs.declared.Stepped as stepped
-use Rattle.desk.specs.declared.Counted.{Counted}
 use Rattle.questions.specs.declared.Because.{Because}
-use Rattle.answers.specs.Answers.{answer_of, kind_of, name_of}
+use Rattle.answers.specs.declared.Refusal.{Refusal}
+use Rattle.answers.specs.Answers.{number_of, answer_of, kind_of, name_of}
 use Rattle.desk.specs.Asking.{Asked}
 use Rattle.desk.specs.Undated.{AskedUndated}
 use Rattle.questions.specs.Meshes.{AskedMesh}
@@ -33,12 +35,18 @@ flat_step s =
     }
 
 -- how many jobs were listed, none where the call is refused
-abbrev pub flat_count : Counted → Listed
-flat_count c = record { refusal = answer_of c.verdict; count = c.count }
+abbrev pub flat_count : Result ℕ Refusal → Listed
+flat_count (Ok count) = record { refusal = 0; count = count }
+flat_count (Err refusal) = record { refusal = number_of refusal; count = 0 }
+
+-- the lent list that holds a label: 1 the job labels, 2 the feed labels
+abbrev pub list_number : Lent → ℕ
+list_number Jobs = 1
+list_number Feeds = 2
 
 -- the place of a label
 abbrev pub flat_part : Part → Label
-flat_part p = record { list = p.list; from = p.from; size = p.size }
+flat_part p = record { list = list_number p.list; from = p.from; size = p.size }
 
 -- the flat form of an answer that asking allows
 pub record AskedFlat (d : Desk) (number work lead : ℕ) (r : Answer) : Type 0 where

@@ -1,17 +1,17 @@
 -- The waveform's cursors and answers as flat numbers: a flag is yes where it is not 0, and comes back as 1 or 0.
-use Rattle.std.specs.Prelude.{Bool, true, false, not, List, ◌++◌, ℕ, eqb, length, drop}
+use Rattle.std.specs.Prelude.{Result, Ok, Err, Bool, true, false, not, List, ◌++◌, ℕ, eqb, length, drop}
 use Rattle.answers.specs.declared.Refusal.{Refusal}
 use Rattle.answers.specs.declared.Refusal.TheVariants.{NotInOrder, NoWaveform}
 use Rattle.answers.specs.Answers.{number_of, answer_of, on_yes, kind_of, name_of}
 use Rattle.waveform.specs.declared.cursor.Cursor as cursor
+use Rattle.waveform.specs.Order.{none}
 use Rattle.waveform.specs.declared.parts.Closed as closed
-use Rattle.waveform.specs.declared.Outcome.{Outcome}
-use Rattle.waveform.specs.declared.Outcome.TheVariants as outcome
+use Rattle.waveform.specs.declared.Whole.{Whole}
+use Rattle.waveform.specs.declared.WrongLine.{WrongLine}
 use Rattle.waveform.specs.declared.stretches.Bookmark.{Bookmark}
 use Rattle.waveform.specs.declared.stretches.Stretch as stretches
 use Rattle.waveform.specs.declared.stretches.Told.{Told}
 use Rattle.waveform.specs.declared.stretches.Told.TheVariants as told
-use Rattle.runs.specs.declared.Begun as begun
 use Rattle.runs.specs.declared.Went.{Went}
 use Rattle.desk_c.specs.declared.wave.Cursor.{Cursor}
 use Rattle.desk_c.specs.declared.wave.Begun.{Begun}
@@ -56,9 +56,10 @@ flat_cursor c =
       feed = flag c.due.feed;
     }
 
--- a run that begins
-abbrev pub flat_begun : begun.Begun → Begun
-flat_begun b = record { cursor = flat_cursor b.cursor; refusal = answer_of b.verdict }
+-- a run that begins, or the empty cursor where it is refused
+abbrev pub flat_begun : Result cursor.Cursor Refusal → Begun
+flat_begun (Ok c) = record { cursor = flat_cursor c; refusal = 0 }
+flat_begun (Err r) = record { cursor = flat_cursor none; refusal = number_of r }
 
 -- a run that went on; where that is refused, the cursor comes back word for word as it was given
 abbrev pub flat_waved : Cursor → Went → Waved
@@ -80,9 +81,9 @@ abbrev pub in_front : List ℕ → List ℕ → List ℕ
 in_front s buffer = s ++ drop (length s) buffer
 
 -- what is made of a text: 20 and the line, or the start, the end and how many stretches
-abbrev pub flat_read : Outcome → Read
-flat_read (outcome.Wrong k) = record { refusal = number_of NoWaveform; line = k; start = 0; end = 0; stretches = 0 }
-flat_read (outcome.Well s e n) = record { refusal = 0; line = 0; start = s; end = e; stretches = n }
+abbrev pub flat_read : Result Whole WrongLine → Read
+flat_read (Err wrong) = record { refusal = number_of NoWaveform; line = wrong.0; start = 0; end = 0; stretches = 0 }
+flat_read (Ok whole) = record { refusal = 0; line = 0; start = whole.start; end = whole.end; stretches = whole.stretches }
 
 -- a refusal: the reading as it was given
 abbrev pub no_stretch : Bookmark → Refusal → ℕ → Stretch

@@ -9,6 +9,7 @@ ghost use Rattle.desk.specs.Calls.{step_of, end_of, rest_of, counted_of, listed_
 ghost use Rattle.desk_c.specs.Flat.{flat_answer, flat_step, flat_count, flat_part, flat_why, AskedFlat, AskedMeshFlat, AskedUndatedFlat, WhyFlat};
 
 use desk::Desk;
+use listing::{Lent, Part};
 use questions::Because;
 
 pub mod wave;
@@ -64,44 +65,59 @@ pub struct Label {
     pub size: usize,
 }
 
-fn flat_answer(answer: desk::Answer) -> Answer
-    ensures { result ≡ flat_answer answer }
-{
-    let desk = answer.desk;
-    let verdict = answer.verdict;
-    Answer {
-        desk,
-        refusal: verdict.answer(),
+impl From<desk::Answer> for Answer {
+    ghost from_gives = { λ answer flat. flat ≡ flat_answer answer };
+
+    fn from(answer: desk::Answer) -> Answer {
+        Answer {
+            desk: answer.desk,
+            refusal: answers::answer(answer.verdict),
+        }
     }
 }
 
-fn flat_step(stepped: desk::Stepped) -> Stepped
-    ensures { result ≡ flat_step stepped }
-{
-    let desk = stepped.desk;
-    let verdict = stepped.verdict;
-    let who = stepped.who;
-    Stepped {
-        desk,
-        refusal: verdict.answer(),
-        kind: who.kind(),
-        number: who.name(),
-        owes: stepped.owes.0,
+impl From<desk::Stepped> for Stepped {
+    ghost from_gives = { λ stepped flat. flat ≡ flat_step stepped };
+
+    fn from(stepped: desk::Stepped) -> Stepped {
+        Stepped {
+            desk: stepped.desk,
+            refusal: answers::answer(stepped.verdict),
+            kind: stepped.who.kind(),
+            number: stepped.who.name(),
+            owes: stepped.owes.0,
+        }
     }
 }
 
-fn flat_why(why: Because) -> Reason
-    ensures { result ≡ flat_why why }
-{
-    let verdict = why.verdict;
-    let reason = why.reason;
-    Reason {
-        refusal: verdict.answer(),
-        at: reason.at.0,
-        jobs: reason.jobs.0,
-        feeds: reason.feeds.0,
-        job: reason.job.0,
-        margin: reason.margin,
+impl From<Because> for Reason {
+    ghost from_gives = { λ why flat. flat ≡ flat_why why };
+
+    fn from(why: Because) -> Reason {
+        let reason = why.reason;
+        Reason {
+            refusal: answers::answer(why.verdict),
+            at: reason.at.0,
+            jobs: reason.jobs.0,
+            feeds: reason.feeds.0,
+            job: reason.job.0,
+            margin: reason.margin,
+        }
+    }
+}
+
+impl From<Part> for Label {
+    ghost from_gives = { λ part flat. flat ≡ flat_part part };
+
+    fn from(part: Part) -> Label {
+        Label {
+            list: match part.list {
+                Lent::Jobs => 1,
+                Lent::Feeds => 2,
+            },
+            from: part.from,
+            size: part.size,
+        }
     }
 }
 
@@ -110,7 +126,7 @@ fn flat_why(why: Because) -> Reason
 pub extern "C" fn desk_open(list: &[u32], start: u64, charge: u32) -> Answer
     ensures { result ≡ flat_answer (opened_of list.now start charge) }
 {
-    flat_answer(Desk::open(list, start, charge))
+    Desk::open(list, start, charge).into()
 }
 
 // The opening that carries a share p/q for exports with no date.
@@ -118,7 +134,7 @@ pub extern "C" fn desk_open(list: &[u32], start: u64, charge: u32) -> Answer
 pub extern "C" fn desk_open_shared(list: &[u32], start: u64, charge: u32, p: u32, q: u32) -> Answer
     ensures { result ≡ flat_answer (opened_shared_of list.now start charge p q) }
 {
-    flat_answer(Desk::open_shared(list, start, charge, p, q))
+    Desk::open_shared(list, start, charge, p, q).into()
 }
 
 // Asking for a job.
@@ -126,7 +142,7 @@ pub extern "C" fn desk_open_shared(list: &[u32], start: u64, charge: u32, p: u32
 pub extern "C" fn desk_ask(desk: Desk, number: u32, work: u32, lead: u32) -> Answer
     ensures { AskedFlat desk number work lead result }
 {
-    flat_answer(desk.ask(number, work, lead))
+    desk.ask(number, work, lead).into()
 }
 
 // Asking with the mesh file itself: the front of the file, its length, and the job's number and lead.
@@ -140,7 +156,7 @@ pub extern "C" fn desk_ask_mesh(
 ) -> Answer
     ensures { AskedMeshFlat desk head.now size number lead result }
 {
-    flat_answer(questions::ask_mesh(desk, head, size, number, lead))
+    questions::ask_mesh(desk, head, size, number, lead).into()
 }
 
 // Asking for a job with no date: the rule gives it its deadline.
@@ -148,7 +164,7 @@ pub extern "C" fn desk_ask_mesh(
 pub extern "C" fn desk_ask_undated(desk: Desk, number: u32, work: u32) -> Answer
     ensures { AskedUndatedFlat desk number work result }
 {
-    flat_answer(desk.ask_undated(number, work))
+    desk.ask_undated(number, work).into()
 }
 
 // Telling the customer why: what an ask would answer, and what decides it.
@@ -156,7 +172,7 @@ pub extern "C" fn desk_ask_undated(desk: Desk, number: u32, work: u32) -> Answer
 pub extern "C" fn desk_why(desk: Desk, number: u32, work: u32, lead: u32) -> Reason
     ensures { WhyFlat desk number work lead result }
 {
-    flat_why(questions::why(desk, number, work, lead))
+    questions::why(desk, number, work, lead).into()
 }
 
 // One step of one tick.
@@ -164,7 +180,7 @@ pub extern "C" fn desk_why(desk: Desk, number: u32, work: u32, lead: u32) -> Rea
 pub extern "C" fn desk_step(desk: Desk) -> Stepped
     ensures { result ≡ flat_step (step_of desk) }
 {
-    flat_step(desk.step())
+    desk.step().into()
 }
 
 // Ending a job before its time.
@@ -172,7 +188,7 @@ pub extern "C" fn desk_step(desk: Desk) -> Stepped
 pub extern "C" fn desk_end(desk: Desk, number: u32) -> Answer
     ensures { result ≡ flat_answer (end_of desk number) }
 {
-    flat_answer(desk.end(number))
+    desk.end(number).into()
 }
 
 // Resting a feed's current piece.
@@ -180,7 +196,7 @@ pub extern "C" fn desk_end(desk: Desk, number: u32) -> Answer
 pub extern "C" fn desk_rest(desk: Desk, position: u32) -> Answer
     ensures { result ≡ flat_answer (rest_of desk position) }
 {
-    flat_answer(desk.rest(position))
+    desk.rest(position).into()
 }
 
 // The live jobs into the front of a lent buffer.
@@ -188,11 +204,15 @@ pub extern "C" fn desk_rest(desk: Desk, position: u32) -> Answer
 pub extern "C" fn desk_list(desk: Desk, buffer: &mut [u64]) -> Listed
     ensures { (result ≡ flat_count (counted_of desk (length buffer.old))) × (buffer.new ≡ listed_of desk buffer.old) }
 {
-    let counted = desk.list(buffer);
-    let verdict = counted.verdict;
-    Listed {
-        refusal: verdict.answer(),
-        count: counted.count as u32,
+    match desk.list(buffer) {
+        Ok(count) => Listed {
+            refusal: 0,
+            count: count as u32,
+        },
+        Err(refusal) => Listed {
+            refusal: refusal.number(),
+            count: 0,
+        },
     }
 }
 
@@ -201,10 +221,5 @@ pub extern "C" fn desk_list(desk: Desk, buffer: &mut [u64]) -> Listed
 pub extern "C" fn desk_label(desk: Desk, jobs: &[u8], feeds: &[u8]) -> Label
     ensures { result ≡ flat_part (label_of (runner_of desk) jobs.now feeds.now) }
 {
-    let part = desk.place(jobs, feeds);
-    Label {
-        list: part.list,
-        from: part.from,
-        size: part.size,
-    }
+    desk.place(jobs, feeds).into()
 }

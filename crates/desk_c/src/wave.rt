@@ -6,13 +6,14 @@ ghost use Rattle.waveform.specs.Parts.{closed_of, closing_bytes};
 ghost use Rattle.waveform.specs.Texts.{judged};
 ghost use Rattle.waveform.specs.Telling.{next_told};
 ghost use Rattle.runs.specs.Parts.{begun_of, went_of, went_bytes};
-ghost use Rattle.desk_c.specs.Waves.{is_set, flag, cursor_of, flat_cursor, flat_begun, flat_waved, flat_closed, in_front};
+ghost use Rattle.desk_c.specs.Waves.{cursor_of, flat_cursor, flat_begun, flat_waved, flat_closed, in_front};
 ghost use Rattle.desk_c.specs.Waves.{flat_read, no_stretch, one_stretch, at_end, flat_told};
 
 use answers::{Refusal, Verdict};
 use desk::Desk;
-use waveform::Outcome;
+use waveform::cursor::Due;
 use waveform::stretches::{Bookmark, Told};
+use waveform::{Whole, WrongLine};
 
 // A run that is being written: since when the same one runs, the clock, the values of the two wires and how many of the lines in
 // front are written; and the flags, 0 for no and anything else for yes: whether a step was taken, and what is due.
@@ -83,48 +84,42 @@ pub struct Stretch {
     pub number: u32,
 }
 
-fn flag(is: bool) -> u32
-    ensures { result ≡ flag is }
-{
-    if is {
-        return 1;
-    }
-    0
-}
+impl From<Cursor> for waveform::cursor::Cursor {
+    ghost from_gives = { λ flat cursor. cursor ≡ cursor_of flat };
 
-fn cursor_of(flat: Cursor) -> waveform::cursor::Cursor
-    ensures { result ≡ cursor_of flat }
-{
-    let due = waveform::cursor::Due {
-        heads: flat.heads,
-        mark: flat.mark != 0,
-        job: flat.job != 0,
-        feed: flat.feed != 0,
-    };
-    waveform::cursor::Cursor {
-        ran: flat.ran != 0,
-        due,
-        since: flat.since,
-        clock: flat.clock,
-        number: flat.number,
-        position: flat.position,
+    fn from(flat: Cursor) -> waveform::cursor::Cursor {
+        waveform::cursor::Cursor {
+            ran: flat.ran != 0,
+            due: Due {
+                heads: flat.heads,
+                mark: flat.mark != 0,
+                job: flat.job != 0,
+                feed: flat.feed != 0,
+            },
+            since: flat.since,
+            clock: flat.clock,
+            number: flat.number,
+            position: flat.position,
+        }
     }
 }
 
-fn flat_cursor(cursor: waveform::cursor::Cursor) -> Cursor
-    ensures { result ≡ flat_cursor cursor }
-{
-    let due = cursor.due;
-    Cursor {
-        since: cursor.since,
-        clock: cursor.clock,
-        number: cursor.number,
-        position: cursor.position,
-        ran: flag(cursor.ran),
-        heads: due.heads,
-        mark: flag(due.mark),
-        job: flag(due.job),
-        feed: flag(due.feed),
+impl From<waveform::cursor::Cursor> for Cursor {
+    ghost from_gives = { λ cursor flat. flat ≡ flat_cursor cursor };
+
+    fn from(cursor: waveform::cursor::Cursor) -> Cursor {
+        let due = cursor.due;
+        Cursor {
+            since: cursor.since,
+            clock: cursor.clock,
+            number: cursor.number,
+            position: cursor.position,
+            ran: u32::from(cursor.ran),
+            heads: due.heads,
+            mark: u32::from(due.mark),
+            job: u32::from(due.job),
+            feed: u32::from(due.feed),
+        }
     }
 }
 
@@ -132,33 +127,34 @@ fn flat_cursor(cursor: waveform::cursor::Cursor) -> Cursor
 fn cursor_after(verdict: Verdict, after: waveform::cursor::Cursor, given: Cursor) -> Cursor
     ensures { result ≡ on_yes verdict (flat_cursor after) given }
 {
-    if verdict.is_yes() {
-        return flat_cursor(after);
+    match verdict {
+        Ok(()) => after.into(),
+        Err(_) => given,
     }
-    given
 }
 
-fn flat_begun(begun: runs::Begun) -> Begun
+fn flat_begun(begun: Result<waveform::cursor::Cursor, Refusal>) -> Begun
     ensures { result ≡ flat_begun begun }
 {
-    let cursor = begun.cursor;
-    let verdict = begun.verdict;
-    Begun {
-        cursor: flat_cursor(cursor),
-        refusal: verdict.answer(),
+    match begun {
+        Ok(cursor) => Begun {
+            cursor: cursor.into(),
+            refusal: 0,
+        },
+        Err(refusal) => Begun {
+            cursor: waveform::cursor::Cursor::NONE.into(),
+            refusal: refusal.number(),
+        },
     }
 }
 
 fn flat_waved(given: Cursor, went: runs::Went) -> Waved
     ensures { result ≡ flat_waved given went }
 {
-    let desk = went.desk;
-    let verdict = went.verdict;
-    let after = went.cursor;
     Waved {
-        desk,
-        cursor: cursor_after(verdict, after, given),
-        refusal: verdict.answer(),
+        desk: went.desk,
+        cursor: cursor_after(went.verdict, went.cursor, given),
+        refusal: answers::answer(went.verdict),
         steps: went.steps,
         bytes: went.bytes,
     }
@@ -167,32 +163,30 @@ fn flat_waved(given: Cursor, went: runs::Went) -> Waved
 fn flat_closed(given: Cursor, closed: waveform::parts::Closed) -> Closed
     ensures { result ≡ flat_closed given closed }
 {
-    let verdict = closed.verdict;
-    let left = closed.cursor;
     Closed {
-        cursor: cursor_after(verdict, left, given),
-        refusal: verdict.answer(),
+        cursor: cursor_after(closed.verdict, closed.cursor, given),
+        refusal: answers::answer(closed.verdict),
         bytes: closed.bytes,
     }
 }
 
-fn flat_read(outcome: Outcome) -> Read
-    ensures { result ≡ flat_read outcome }
+fn flat_read(judged: Result<Whole, WrongLine>) -> Read
+    ensures { result ≡ flat_read judged }
 {
-    match outcome {
-        Outcome::Wrong(line) => Read {
+    match judged {
+        Ok(whole) => Read {
+            refusal: 0,
+            line: 0,
+            start: whole.start,
+            end: whole.end,
+            stretches: whole.stretches,
+        },
+        Err(WrongLine(line)) => Read {
             refusal: Refusal::NoWaveform.number(),
             line,
             start: 0,
             end: 0,
             stretches: 0,
-        },
-        Outcome::Well(start, end, stretches) => Read {
-            refusal: 0,
-            line: 0,
-            start,
-            end,
-            stretches,
         },
     }
 }
@@ -214,15 +208,14 @@ fn no_stretch(given: Bookmark, refusal: Refusal, line: usize) -> Stretch
 fn one_stretch(reading: Bookmark, stretch: waveform::stretches::Stretch) -> Stretch
     ensures { result ≡ one_stretch reading stretch }
 {
-    let who = stretch.who;
     Stretch {
         reading,
         refusal: 0,
         line: 0,
         from: stretch.from,
         to: stretch.to,
-        kind: who.kind(),
-        number: who.name(),
+        kind: stretch.who.kind(),
+        number: stretch.who.name(),
     }
 }
 
@@ -265,7 +258,7 @@ pub extern "C" fn desk_wave_begin(desk: Desk) -> Begun
 pub extern "C" fn desk_wave(desk: Desk, cursor: Cursor, steps: u32, buffer: &mut [u8]) -> Waved
     ensures { (result ≡ flat_waved cursor (went_of (length buffer.old) steps desk (cursor_of cursor))) × (buffer.new ≡ in_front (went_bytes (length buffer.old) steps desk (cursor_of cursor)) buffer.old) }
 {
-    flat_waved(cursor, runs::go_on(desk, cursor_of(cursor), steps, buffer))
+    flat_waved(cursor, runs::go_on(desk, cursor.into(), steps, buffer))
 }
 
 // Closing it, call after call until nothing is written.
@@ -273,7 +266,7 @@ pub extern "C" fn desk_wave(desk: Desk, cursor: Cursor, steps: u32, buffer: &mut
 pub extern "C" fn desk_wave_close(cursor: Cursor, buffer: &mut [u8]) -> Closed
     ensures { (result ≡ flat_closed cursor (closed_of (length buffer.old) (cursor_of cursor))) × (buffer.new ≡ in_front (closing_bytes (length buffer.old) (cursor_of cursor)) buffer.old) }
 {
-    flat_closed(cursor, waveform::parts::close(cursor_of(cursor), buffer))
+    flat_closed(cursor, waveform::parts::close(cursor.into(), buffer))
 }
 
 // What a whole text tells of a run.

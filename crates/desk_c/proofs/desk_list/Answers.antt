@@ -1,5 +1,5 @@
 -- `desk_c::desk_list` meets its contract: the list, its count flat.
-use mathlib.Core.Path.{◌≡◌, ap}
+use mathlib.Core.Path.{◌≡◌, sym, ◌∙◌}
 use native.Mathlib.Omega.{arith}
 use lib.ListN.{length}
 use borrow.Author.Rules.{rules}
@@ -12,4 +12,4 @@ pub overflow_cast-result : goal.overflow_cast-result
 overflow_cast-result c =
     let places : length c.args.desk.ledger.table.jobs ≡ most_jobs =
     search (rules, length_mapped) in
-    omega (arith, few_counted c.args.desk (length c.args.buffer.now) places, ap (λ r. r.count) c.list-counted.ensures.0)
+    omega (arith, few_counted c.args.desk (length c.args.buffer.now) c.in-Ok.count places (sym c.list.ensures.0 ∙ c.in-Ok.is))
