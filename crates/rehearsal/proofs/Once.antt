@@ -3,7 +3,7 @@ use mathlib.Core.Path.{◌≡◌, refl, sym, ap, ◌∙◌}
 use mathlib.Core.Bool.{Bool, true, false}
 use mathlib.Core.List.{List}
 use Prim.Native.Nat.{ℕ}
-use Rattle.text.specs.declared.Found.{Found}
+use Rattle.std.specs.Prelude.{Option, Some, None}
 use Rattle.words.specs.declared.Line.{Line}
 use Rattle.text.specs.Fields.{line_end}
 use Rattle.desk.proofs.Asking.{asked_once}
@@ -48,6 +48,6 @@ read_once s input p r t a b = go (line_end input p.from) a.heard b.heard
     lines : r.place.lines ≡ t.place.lines
     lines = a.counted ∙ sym b.counted
 
-    go : (f : Found) → HeardTo s input p f r → HeardTo s input p f t → r ≡ t
-    go (Found.At end) x y = same_read r t (heard_once s _ _ r.reply t.reply x.0 y.0) (x.1 ∙ sym y.1) lines
-    go Found.Nothing x y = same_read r t (x.0 ∙ sym y.0) (x.1 ∙ sym y.1) lines
+    go : (f : Option ℕ) → HeardTo s input p f r → HeardTo s input p f t → r ≡ t
+    go (Some end) x y = same_read r t (heard_once s _ _ r.reply t.reply x.0 y.0) (x.1 ∙ sym y.1) lines
+    go None x y = same_read r t (x.0 ∙ sym y.0) (x.1 ∙ sym y.1) lines

@@ -2,66 +2,50 @@
 use mathlib.Core.Path.{◌≡◌, refl, sym, ap, subst, ◌∙◌}
 use mathlib.Core.Bool.{Bool, true, false, cond, ◌||◌}
 use mathlib.Core.List.{List}
-use Prim.Native.Nat.{ℕ, ◌-◌, ◌*◌, ◌≤◌, ◌<◌}
+use Prim.Native.Nat.{ℕ, ◌*◌, ◌≤◌, ◌<◌}
 use native.Mathlib.Omega.{arith}
 use lib.Dec.{leb, ltb}
 use lib.ListN.{length, take}
-use Rattle.text.specs.declared.Found.{Found}
 use Rattle.words.specs.declared.Line.{Line}
 use Rattle.text.specs.Fields.{line_end, newline}
 use Rattle.text.proofs.Fields.{found_at}
-use Rattle.answers.specs.declared.Verdict.{Verdict}
-use Rattle.answers.specs.declared.Verdict.TheVariants.{Yes, No}
-use Rattle.answers.specs.Answers.{answer_of, is_yes, on_yes}
-use Rattle.answers.proofs.Answers.{on_yes_lem, on_no}
+use Rattle.answers.specs.Verdicts.{Verdict}
+use Rattle.std.specs.Prelude.{Option, Some, None, Result, Ok, Err}
+use Rattle.answers.specs.declared.Refusal.{Refusal}
 use Rattle.feeds.specs.Feeds.{numbers_a_feed}
 use Rattle.serving.specs.declared.Stepped.{Stepped}
 use Rattle.serving.specs.Tick as serving
-use Rattle.desk.specs.State.{with, Good}
+use Rattle.desk.specs.State.{Good}
 use Rattle.desk.specs.Calls as desk
-use Rattle.desk.proofs.Calls.{stepped_desk, step_by_serving}
+use Rattle.desk.specs.Calls.{stepped_desk}
+use Rattle.desk.proofs.Calls.{step_by_serving}
 use Rattle.desk.proofs.Good.{opening_is_good, step_is_good, end_is_good, rest_is_good, ask_is_good}
 use Rattle.rehearsal.specs.declared.Session.{Session}
 use Rattle.rehearsal.specs.declared.Reply.{Reply}
 use Rattle.rehearsal.specs.declared.Place.{Place}
 use Rattle.rehearsal.specs.declared.Read.{Read}
-use Rattle.rehearsal.specs.Session.{
-  most_feed_lines,
-  with_desk,
-  with_left,
-  reply,
-  feed_of,
-  go_of,
-  end_of,
-  rest_of,
-  run_of,
-  stopped_of,
-  said_of,
-  stepped_of,
-  tick_of,
-}
+use Rattle.rehearsal.specs.Session.{most_feed_lines, feed_of, go_of, end_of, rest_of, run_of, stopped_of, or_stopped, stepped_of, tick_of}
 use Rattle.rehearsal.specs.Hearing.{Heard, HeardTo, Answers}
 
 -- A TICK IS THE DESK'S STEP
-module _ (s : Session) (g : Good s.desk) (x : Stepped) (e : x ≡ serving.stepped_of s.desk.ledger) where
-  stepped : stepped_of s (stepped_desk s.desk x) ≡ tick_of s
+module _ (s : Session) (g : Good s.desk) where
+  -- what comes of the step of the state is told as the desk's
+  stepped : (x : Result Stepped Refusal) → x ≡ serving.stepped_of s.desk.ledger → stepped_of s (stepped_desk s.desk x) ≡ tick_of s
   unfolding tick_of
-  stepped = ap (λ y. stepped_of s (stepped_desk s.desk y)) e ∙ ap (stepped_of s) (step_by_serving s.desk g.order)
+  stepped x e = ap (λ y. stepped_of s (stepped_desk s.desk y)) e ∙ ap (stepped_of s) (step_by_serving s.desk g.order)
 
   -- one that is given
-  pub given : is_yes x.verdict ≡ true
-      → reply (with_left (with_desk s (with s.desk x.ledger)) (s.left - 1)) (said_of s.desk.ledger.clock.0 x.who) ≡ tick_of s
-  given y = sym (on_yes_lem x.verdict _ (stopped_of s (answer_of x.verdict)) y) ∙ stepped
+  pub given : (x : Stepped) → Ok x ≡ serving.stepped_of s.desk.ledger → stepped_of s (stepped_desk s.desk (Ok x)) ≡ tick_of s
+  given x e = stepped (Ok x) e
 
   -- one that is refused
-  pub refused : is_yes x.verdict ≡ false → stopped_of s (answer_of x.verdict) ≡ tick_of s
-  refused n =
-      sym (on_no x.verdict (reply (with_left (with_desk s (with s.desk x.ledger)) (s.left - 1)) (said_of s.desk.ledger.clock.0 x.who)) _ n) ∙ stepped
+  pub refused : (r : Refusal) → Err r ≡ serving.stepped_of s.desk.ledger → stopped_of s r ≡ tick_of s
+  refused r e = stepped (Err r) e
 
--- what holds of a reply to a given step and of one to a refused step holds of the tick's
-by_step : (P : Reply → Type 0) (v : Verdict) (a b : Reply) → P a → P b → P (on_yes v a b)
-by_step P Yes a b p q = p
-by_step P (No x) a b p q = q
+-- what holds of a reply to a given step and of each to a refused step holds of the tick's
+by_step : (P : Reply → Type 0) (s : Session) (v : Verdict) (r : Reply) → P r → ((x : Refusal) → P (stopped_of s x)) → P (or_stopped s v r)
+by_step P s (Ok tt) r p q = p
+by_step P s (Err x) r p q = q x
 
 -- and so by a test
 by_test : (P : Reply → Type 0) (t : Bool) (a b : Reply) → P a → P b → P (cond t a b)
@@ -71,7 +55,7 @@ by_test P false a b p q = q
 -- A TICK LEAVES FEWER TICKS OF ITS RUN
 pub tick_less : (s : Session) → 0 < s.left → (tick_of s).session.left < s.left
 unfolding tick_of
-tick_less s h = by_step (λ r. r.session.left < s.left) (desk.step_of s.desk).verdict _ _ (omega arith) (omega arith)
+tick_less s h = by_step (λ r. r.session.left < s.left) s (desk.step_of s.desk).verdict _ (omega arith) (λ x. omega arith)
 
 -- EVERY DESK OF A SESSION IS GOOD
 abbrev pub GoodReply : Reply → Type 0
@@ -79,7 +63,7 @@ GoodReply r = Good r.session.desk
 
 pub tick_good : (s : Session) → Good s.desk → GoodReply (tick_of s)
 unfolding tick_of
-tick_good s g = by_step GoodReply (desk.step_of s.desk).verdict _ _ (step_is_good s.desk g) g
+tick_good s g = by_step GoodReply s (desk.step_of s.desk).verdict _ (step_is_good s.desk g) (λ x. g)
 
 pub hear_good : (s : Session) (line : ℕ) (means : Line) (r : Reply) → Good s.desk → Heard s line means r → GoodReply r
 unfolding Heard feed_of go_of end_of rest_of run_of
@@ -102,9 +86,9 @@ pub read_good : (s : Session) (input : List ℕ) (p : Place) (r : Read) → Good
 unfolding HeardTo
 read_good s input p r g a = go (line_end input p.from) a.heard
   where
-    go : (f : Found) → HeardTo s input p f r → GoodReply r.reply
-    go (Found.At end) x = hear_good s _ _ r.reply g x.0
-    go Found.Nothing x = subst GoodReply (sym x.0) g
+    go : (f : Option ℕ) → HeardTo s input p f r → GoodReply r.reply
+    go (Some end) x = hear_good s _ _ r.reply g x.0
+    go None x = subst GoodReply (sym x.0) g
 
 -- EACH LINE LEADS FURTHER ON, within the input, and no more lines than bytes were read
 pub record Onward (input : List ℕ) (p q : Place) : Type 0 where
@@ -117,13 +101,13 @@ pub read_on : (s : Session) (input : List ℕ) (p : Place) (r : Read) → Answer
 unfolding HeardTo
 read_on s input p r a h i = go (line_end input p.from) refl a.heard
   where
-    go : (f : Found) → line_end input p.from ≡ f → HeardTo s input p f r → Onward input p r.place
-    go (Found.At end) e x =
+    go : (f : Option ℕ) → line_end input p.from ≡ f → HeardTo s input p f r → Onward input p r.place
+    go (Some end) e x =
         let there = found_at newline _ _ _ e in
         record {
           further = omega (arith, there.after, x.1);
           inside = omega (arith, there.inside, x.1);
           lines = omega (arith, there.after, x.1, a.counted);
         }
-    go Found.Nothing e x =
+    go None e x =
         record { further = omega (arith, x.1); inside = omega (arith, x.1); lines = omega (arith, x.1, a.counted) }

@@ -1,6 +1,5 @@
 -- What a line answers by what it means, and what the next line of the input is.
-use Rattle.std.specs.Prelude.{◌≡◌, true, false, List, ℕ, ◌+◌, ◌-◌, length, take, drop}
-use Rattle.text.specs.declared.Found.{Found}
+use Rattle.std.specs.Prelude.{◌≡◌, true, false, List, ℕ, ◌+◌, ◌-◌, length, take, drop, Option, Some, None}
 use Rattle.words.specs.declared.Line.{Line}
 use Rattle.text.specs.Fields.{line_end}
 use Rattle.words.specs.Lines.{line_of}
@@ -35,11 +34,11 @@ Heard s line (Line.Run ticks) r = r ≡ run_of s line ticks
 Heard s line Line.Bad r = r ≡ bad_of s line
 
 -- the next line ends before the first newline; without one it is bad, and nothing is left to read
-unfoldable pub HeardTo : Session → List ℕ → Place → Found → Read → Type 0
-HeardTo s input p (Found.At end) r =
+unfoldable pub HeardTo : Session → List ℕ → Place → Option ℕ → Read → Type 0
+HeardTo s input p (Some end) r =
     Heard s (p.lines + 1) (line_of (take (end - p.from) (drop p.from input))) r.reply
     × (r.place.from ≡ end + 1)
-HeardTo s input p Found.Nothing r = (r.reply ≡ bad_of s (p.lines + 1)) × (r.place.from ≡ length input)
+HeardTo s input p None r = (r.reply ≡ bad_of s (p.lines + 1)) × (r.place.from ≡ length input)
 
 -- what the next line of the input answers, and the place after it
 pub record Answers (s : Session) (input : List ℕ) (p : Place) (r : Read) : Type 0 where

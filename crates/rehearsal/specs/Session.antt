@@ -1,11 +1,11 @@
 -- What each line and each tick of a rehearsal says, and the session after it.
-use Rattle.std.specs.Prelude.{true, false, not, cond, ◌||◌, ℕ, ◌+◌, ◌*◌, ◌-◌, leb, ltb, eqb, take, set, replicate}
+use Rattle.std.specs.Prelude.{true, false, not, cond, ◌||◌, ℕ, ◌+◌, ◌*◌, ◌-◌, leb, ltb, take, set, replicate, Ok, Err}
 use Rattle.desk.specs.declared.Desk.{Desk}
 use Rattle.desk.specs.declared.Answer.{Answer}
 use Rattle.desk.specs.declared.Stepped.{Stepped}
-use Rattle.answers.specs.declared.Who.{Who}
-use Rattle.answers.specs.declared.Who.TheVariants as who
-use Rattle.answers.specs.Answers.{answer_of, on_yes}
+use Rattle.answers.specs.declared.Refusal.{Refusal}
+use Rattle.answers.specs.Verdicts.{Verdict}
+use Rattle.answers.specs.Answers.{number_of, answer_of, is_yes}
 use Rattle.feeds.specs.Feeds.{numbers_a_feed}
 use Rattle.desk.specs.State.{empty}
 use Rattle.desk.specs.Opening.{opened_of}
@@ -69,7 +69,7 @@ gone s a =
       list = s.list;
       feeds = s.feeds;
       opened = true;
-      over = not (eqb (answer_of a.verdict) 0);
+      over = not (is_yes a.verdict);
       left = s.left;
     }
 
@@ -97,20 +97,18 @@ unfoldable pub run_of : Session → ℕ → ℕ → Reply
 run_of s line ticks = cond s.opened (reply (with_left s ticks) Said.Nothing) (bad_of s line)
 
 -- a refused step ends its run
-abbrev pub stopped_of : Session → ℕ → Reply
-stopped_of s refusal = reply (with_left s 0) (Said.Stopped refusal)
+abbrev pub stopped_of : Session → Refusal → Reply
+stopped_of s refusal = reply (with_left s 0) (Said.Stopped (number_of refusal))
 
--- whom a tick at an instant goes to
-abbrev pub said_of : ℕ → Who → Said
-said_of instant (who.Job number) = Said.Job instant number
-said_of instant (who.Feed position) = Said.Feed instant position
-said_of instant who.Idle = Said.Idle instant
+-- the reply to a step: this where the step is given
+abbrev pub or_stopped : Session → Verdict → Reply → Reply
+or_stopped s (Ok tt) r = r
+or_stopped s (Err refusal) r = stopped_of s refusal
 
--- a tick of a run by what the desk's step hands back; a refused step ends its run
+-- a tick of a run by what the desk's step hands back
 abbrev pub stepped_of : Session → Stepped → Reply
 stepped_of s x =
-    on_yes x.verdict (reply (with_left (with_desk s x.desk) (s.left - 1)) (said_of s.desk.ledger.clock.0 x.who))
-    (stopped_of s (answer_of x.verdict))
+    or_stopped s x.verdict (reply (with_left (with_desk s x.desk) (s.left - 1)) (Said.Tick s.desk.ledger.clock.0 x.who))
 
 -- one tick of a run: its instant and whom the step names
 unfoldable pub tick_of : Session → Reply

@@ -2,16 +2,17 @@
 // It must not know input and output, nor the words of an answer: the text is lent to it, and the words are the sayings'.
 #![tactic(auto)]
 
-ghost use Rattle.std.specs.Prelude.{◌≡◌, ◌≤◌, ◌<◌, ◌^◌, length};
+ghost use Rattle.std.specs.Prelude.{◌≡◌, ◌*◌, ◌≤◌, ◌<◌, length, take};
+ghost use Rattle.feeds.specs.Feeds.{numbers_a_feed};
 ghost use Rattle.desk.specs.State.{Good};
-ghost use Rattle.rehearsal.specs.Session.{begun, bad_of, feed_of, go_of, end_of, rest_of, run_of, said_of, tick_of, stopped_of};
-ghost use Rattle.rehearsal.specs.Hearing.{AskOf, Heard, Answers};
+ghost use Rattle.desk.specs.Opening.{opened_of};
+ghost use Rattle.desk.specs.Calls.{end_of, rest_of};
+ghost use Rattle.rehearsal.specs.Session.{most_feed_lines, begun, reply, bad_of, fed, gone_of, call_of, with_left, tick_of};
+ghost use Rattle.rehearsal.specs.Hearing.{Told, Heard, Answers};
 
-use answers::Who;
-use desk::Desk;
+use desk::{Answer, Desk};
 use feeds::Feed;
 use sayings::Said;
-use text::Found;
 use words::Line;
 
 // What was heard so far: the desk, the numbers of the feed lines, whether the desk is open, whether the rehearsal is
@@ -52,17 +53,6 @@ pub struct Read {
     pub place: Place,
 }
 
-// Whom a tick at an instant goes to.
-fn named(instant: u64, who: Who) -> Said
-    ensures { result ≡ said_of instant who }
-{
-    match who {
-        Who::Job(number) => Said::Job(instant, number),
-        Who::Feed(position) => Said::Feed(instant, position),
-        Who::Idle => Said::Idle(instant),
-    }
-}
-
 impl Session {
     // The rehearsal's own limit on feed lines, one more than a desk takes.
     const FEEDS: usize = 17;
@@ -85,178 +75,129 @@ impl Session {
     fn bad(self, line: usize) -> Reply
         ensures { result ≡ bad_of self line }
     {
-        let mut session = self;
-        session.over = true;
         Reply {
-            session,
+            session: Session { over: true, ..self },
             said: Said::Bad(line),
         }
     }
 
-    fn feed(self, line: usize, period: u32, work: u32, offset: u32, lead: u32) -> Reply
-        ensures { result ≡ feed_of self line period work offset lead }
+    fn feed(self, period: u32, work: u32, offset: u32, lead: u32) -> Reply
+        requires { self.feeds < most_feed_lines }
+        ensures { result ≡ reply (fed self period work offset lead) Said.Nothing }
     {
-        if self.opened {
-            return self.bad(line);
-        }
-        if Session::FEEDS <= self.feeds {
-            return self.bad(line);
-        }
         let at = Feed::NUMBERS * self.feeds;
-        let mut session = self;
-        session.list[at] = period;
-        session.list[at + 1] = work;
-        session.list[at + 2] = offset;
-        session.list[at + 3] = lead;
-        session.feeds = self.feeds + 1;
+        let mut list = self.list;
+        list[at..at + Feed::NUMBERS].copy_from_slice(&[period, work, offset, lead]);
         Reply {
-            session,
+            session: Session {
+                list,
+                feeds: self.feeds + 1,
+                ..self
+            },
             said: Said::Nothing,
         }
     }
 
-    fn go(self, line: usize, start: u64, charge: u32) -> Reply
-        ensures { result ≡ go_of self line start charge }
+    // A refused opening ends the rehearsal.
+    fn go(self, start: u64, charge: u32) -> Reply
+        requires { self.feeds ≤ most_feed_lines }
+        ensures { result ≡ gone_of self (opened_of (take (numbers_a_feed * self.feeds) self.list) start charge) }
     {
-        if self.opened {
-            return self.bad(line);
-        }
-        if Session::FEEDS < self.feeds {
-            return self.bad(line);
-        }
-        let list = self.list;
         let numbers = Feed::NUMBERS * self.feeds;
-        let answer = Desk::open(&list[..numbers], start, charge);
-        let desk = answer.desk;
-        let verdict = answer.verdict;
-        let number = verdict.answer();
-        let mut session = self;
-        session.desk = desk;
-        session.opened = true;
-        session.over = number != 0;
+        let Answer { desk, verdict } = Desk::open(&self.list[..numbers], start, charge);
         Reply {
-            session,
-            said: Said::Go(number),
+            session: Session {
+                desk,
+                opened: true,
+                over: verdict.is_err(),
+                ..self
+            },
+            said: Said::Go(answers::answer(verdict)),
         }
     }
 
-    fn ask(self, line: usize, number: u32, work: u32, lead: u32) -> Reply
-        ensures { AskOf self line number work lead result }
+    fn ask(self, number: u32, work: u32, lead: u32) -> Reply
+        ensures { Told self number work lead result }
     {
-        if !self.opened {
-            return self.bad(line);
-        }
-        let answer = self.desk.ask(number, work, lead);
-        let desk = answer.desk;
-        let verdict = answer.verdict;
-        let refusal = verdict.answer();
-        let mut session = self;
-        session.desk = desk;
+        let Answer { desk, verdict } = self.desk.ask(number, work, lead);
         Reply {
-            session,
-            said: Said::Ask(number, refusal),
+            session: Session { desk, ..self },
+            said: Said::Ask(number, answers::answer(verdict)),
         }
     }
 
-    fn end(self, line: usize, number: u32) -> Reply
-        ensures { result ≡ end_of self line number }
+    fn end(self, number: u32) -> Reply
+        ensures { result ≡ call_of self Said.End (end_of self.desk number) }
     {
-        if !self.opened {
-            return self.bad(line);
-        }
-        let answer = self.desk.end(number);
-        let desk = answer.desk;
-        let verdict = answer.verdict;
-        let refusal = verdict.answer();
-        let mut session = self;
-        session.desk = desk;
+        let Answer { desk, verdict } = self.desk.end(number);
         Reply {
-            session,
-            said: Said::End(refusal),
+            session: Session { desk, ..self },
+            said: Said::End(answers::answer(verdict)),
         }
     }
 
-    fn rest(self, line: usize, position: u32) -> Reply
-        ensures { result ≡ rest_of self line position }
+    fn rest(self, position: u32) -> Reply
+        ensures { result ≡ call_of self Said.Rest (rest_of self.desk position) }
     {
-        if !self.opened {
-            return self.bad(line);
-        }
-        let answer = self.desk.rest(position);
-        let desk = answer.desk;
-        let verdict = answer.verdict;
-        let refusal = verdict.answer();
-        let mut session = self;
-        session.desk = desk;
+        let Answer { desk, verdict } = self.desk.rest(position);
         Reply {
-            session,
-            said: Said::Rest(refusal),
+            session: Session { desk, ..self },
+            said: Said::Rest(answers::answer(verdict)),
         }
     }
 
     // A run is only begun here: each of its ticks has a reply of its own.
-    fn run(self, line: usize, ticks: u32) -> Reply
-        ensures { result ≡ run_of self line ticks }
+    fn run(self, ticks: u32) -> Reply
+        ensures { result ≡ reply (with_left self ticks) Said.Nothing }
     {
-        if !self.opened {
-            return self.bad(line);
-        }
-        let mut session = self;
-        session.left = ticks;
         Reply {
-            session,
+            session: Session {
+                left: ticks,
+                ..self
+            },
             said: Said::Nothing,
         }
     }
 
-    // What a line answers; `line` is its number, counted from 1.
+    // What a line answers; `line` is its number, counted from 1. Feeds are heard before `go`, `go` once, the calls after it.
+    #[tactic(auto, unfolding(crate::specs::Hearing::Heard, crate::specs::Session::feed_of, crate::specs::Session::go_of, crate::specs::Session::end_of, crate::specs::Session::rest_of, crate::specs::Session::run_of))]
     pub fn hear(self, line: usize, means: Line) -> Reply
         ensures { Heard self line means result }
     {
+        let Session { opened, feeds, .. } = self;
         match means {
-            Line::Feed(period, work, offset, lead) => self.feed(line, period, work, offset, lead),
-            Line::Go(start, charge) => self.go(line, start, charge),
-            Line::Ask(number, work, lead) => self.ask(line, number, work, lead),
-            Line::End(number) => self.end(line, number),
-            Line::Rest(position) => self.rest(line, position),
-            Line::Run(ticks) => self.run(line, ticks),
-            Line::Bad => self.bad(line),
+            Line::Feed(period, work, offset, lead) if !opened && feeds < Session::FEEDS => {
+                self.feed(period, work, offset, lead)
+            }
+            Line::Go(start, charge) if !opened && feeds <= Session::FEEDS => self.go(start, charge),
+            Line::Ask(number, work, lead) if opened => self.ask(number, work, lead),
+            Line::End(number) if opened => self.end(number),
+            Line::Rest(position) if opened => self.rest(position),
+            Line::Run(ticks) if opened => self.run(ticks),
+            _ => self.bad(line),
         }
     }
 
-    // One tick of the run that is under way. Every state from an opening onward is good, so its order is not checked
-    // again at each tick.
+    // One tick of the run that is under way; a refused step ends its run. Every state from an opening onward is good, so its
+    // order is not checked again at each tick.
     pub fn tick(self) -> Reply
         requires { (0 < self.left) × Good self.desk }
         ensures { result ≡ tick_of self }
     {
         let instant = self.desk.ledger.clock.0;
-        let stepped = serving::step(self.desk.ledger);
-        let ledger = stepped.ledger;
-        let verdict = stepped.verdict;
-        let who = stepped.who;
-        if !verdict.is_yes() {
-            return self.stopped(verdict.answer());
-        }
-        let desk = self.desk.with(ledger);
-        let mut session = self;
-        session.desk = desk;
-        session.left = self.left - 1;
-        Reply {
-            session,
-            said: named(instant, who),
-        }
-    }
-
-    // A refused step ends its run.
-    fn stopped(self, refusal: u32) -> Reply
-        ensures { result ≡ stopped_of self refusal }
-    {
-        let mut session = self;
-        session.left = 0;
-        Reply {
-            session,
-            said: Said::Stopped(refusal),
+        match serving::step(self.desk.ledger) {
+            Ok(stepped) => Reply {
+                session: Session {
+                    desk: self.desk.with(stepped.ledger),
+                    left: self.left - 1,
+                    ..self
+                },
+                said: Said::Tick(instant, stepped.who),
+            },
+            Err(refusal) => Reply {
+                session: Session { left: 0, ..self },
+                said: Said::Stopped(refusal.number()),
+            },
         }
     }
 
@@ -266,24 +207,21 @@ impl Session {
         ensures { Answers self input.now place result }
     {
         let from = place.from;
-        let line = place.lines + 1;
-        match text::line_end(input, from) {
-            Found::At(end) => {
-                let next = end + 1;
-                Read {
-                    reply: self.hear(line, words::read_line(&input[from..end])),
-                    place: Place {
-                        from: next,
-                        lines: line,
-                    },
-                }
-            }
-            Found::Nothing => Read {
-                reply: self.bad(line),
+        let lines = place.lines + 1;
+        let Some(end) = text::line_end(input, from) else {
+            return Read {
+                reply: self.bad(lines),
                 place: Place {
                     from: input.len(),
-                    lines: line,
+                    lines,
                 },
+            };
+        };
+        Read {
+            reply: self.hear(lines, words::read_line(&input[from..end])),
+            place: Place {
+                from: end + 1,
+                lines,
             },
         }
     }

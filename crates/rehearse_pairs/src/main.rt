@@ -10,9 +10,7 @@ use std::rt::{Env, Files};
 
 // The script of that name, where there is one.
 fn opened<R: Files>(rt: &R, path: &[u8]) -> Option<R::File> {
-    let Ok(name) = str::from_utf8(path) else {
-        return None;
-    };
+    let name = str::from_utf8(path).ok()?;
     File::open(rt, name).ok()
 }
 

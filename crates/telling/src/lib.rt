@@ -4,7 +4,7 @@
 
 ghost use Rattle.std.specs.Prelude.{◌≡◌, ◌+◌, ◌≤◌, ◌<◌, length, IfOk, OnErr};
 ghost use Rattle.sayings.specs.Texts.{most_text};
-ghost use Rattle.telling.specs.Going.{Filled, Ready, Onto};
+ghost use Rattle.telling.specs.Going.{Filled, Ran, Ready, Onto};
 
 use reading::read_full;
 use rehearsal::{Place, Session};
@@ -17,13 +17,6 @@ use std::io::{Read, Write};
 struct Going {
     session: Session,
     place: Place,
-    at: usize,
-}
-
-// A run under way.
-#[derive(Clone, Copy)]
-struct Running {
-    session: Session,
     at: usize,
 }
 
@@ -49,20 +42,17 @@ fn tell<W: Write>(sink: &mut W, out: &mut [u8], at: usize, said: Said) -> io::Re
 }
 
 // The ticks of a run, if one is under way.
-fn run<W: Write>(sink: &mut W, out: &mut [u8], running: Running) -> io::Result<Running>
-    requires { Filled out.old running.session running.at }
-    ensures told { IfOk result (λ ran. Filled out.old ran.session ran.at) }
+fn run<W: Write>(sink: &mut W, out: &mut [u8], mut going: Going) -> io::Result<Going>
+    requires { Filled out.old going.session going.at }
+    ensures told { IfOk result (λ ran. Ran out.old going ran) }
     ensures failed { OnErr result (length out.new ≡ length out.old) }
 {
-    let mut session = running.session;
-    let mut at = running.at;
-    while 0 < session.left {
-        let reply = session.tick();
-        let said = reply.said;
-        session = reply.session;
-        at = tell(sink, out, at, said)?;
+    while 0 < going.session.left {
+        let reply = going.session.tick();
+        going.session = reply.session;
+        going.at = tell(sink, out, going.at, reply.said)?;
     }
-    Ok(Running { session, at })
+    Ok(going)
 }
 
 // One line and what it answers.
@@ -71,20 +61,15 @@ fn hear<W: Write>(input: &[u8], sink: &mut W, out: &mut [u8], going: Going) -> i
     ensures told { IfOk result (λ gone. Onto input.now out.old going gone) }
     ensures failed { OnErr result (length out.new ≡ length out.old) }
 {
-    let at = going.at;
     let read = going.session.read(input, going.place);
-    let place = read.place;
     let reply = read.reply;
-    let session = reply.session;
-    let said = reply.said;
-    let told = tell(sink, out, at, said)?;
-    let ran = run(sink, out, Running { session, at: told })?;
-    let after = ran.session;
-    Ok(Going {
-        session: after,
-        place,
-        at: ran.at,
-    })
+    let at = tell(sink, out, going.at, reply.said)?;
+    let going = Going {
+        session: reply.session,
+        place: read.place,
+        at,
+    };
+    run(sink, out, going)
 }
 
 // Every line of a script, until the rehearsal is over.
@@ -95,14 +80,10 @@ fn hear_all<W: Write>(input: &[u8], sink: &mut W) -> io::Result<()> {
         place: Place { from: 0, lines: 0 },
         at: 0,
     };
-    while going.place.from < input.len() {
-        if going.session.over {
-            break;
-        }
+    while going.place.from < input.len() && !going.session.over {
         going = hear(input, sink, &mut out, going)?;
     }
-    let at = going.at;
-    sink.write_all(&out[..at])
+    sink.write_all(&out[..going.at])
 }
 
 // Rehearses the script that an input holds; one that is too long is only told so.

@@ -5,8 +5,8 @@ use mathlib.Core.List.{List, [], ◌∷◌, ◌++◌}
 use Prim.Native.Nat.{ℕ, zero, suc, ◌+◌, ◌≤◌}
 use native.Mathlib.Omega.{arith}
 use lib.ListN.{length, length-append}
-use Rattle.answers.specs.declared.Verdict.{Verdict}
-use Rattle.answers.specs.declared.Verdict.TheVariants.{Yes, No}
+use Rattle.answers.specs.Verdicts.{Verdict}
+use Rattle.std.specs.Prelude.{Ok, Err}
 use Rattle.answers.specs.Answers.{on_yes}
 use Rattle.desk.specs.declared.Desk.{Desk}
 use Rattle.desk.specs.Calls.{step_of}
@@ -21,8 +21,8 @@ inside t more {e} h = let n : length e ≡ length t + length more = ap length h 
 
 -- how many bytes there are by an answer
 pub counted : (v : Verdict) (t : List ℕ) → on_yes v (length t) 0 ≡ length (on_yes v t [])
-counted Yes t = refl
-counted (No r) t = refl
+counted (Ok tt) t = refl
+counted (Err r) t = refl
 
 -- each turn of a part takes one step at most
 few_carried : (size n : ℕ) (p : Part) → length (carried size n p).names ≤ length p.names + n
@@ -49,8 +49,8 @@ module _ (size most : ℕ) (d : Desk) (c : Cursor) {r : Went} (e : r ≡ went_of
       omega (arith, steps, bound)
     where
       by_answer : (v : Verdict) (n : ℕ) → n ≤ most → on_yes v n 0 ≤ most
-      by_answer Yes n h = h
-      by_answer (No x) n h = omega arith
+      by_answer (Ok tt) n h = h
+      by_answer (Err x) n h = omega arith
 
   -- NO MORE BYTES THAN THERE ARE
   pub few_bytes : (more : List ℕ) {exit : List ℕ} → exit ≡ went_bytes size most d c ++ more → r.bytes ≤ length exit

@@ -7,8 +7,8 @@ use native.Mathlib.Omega.{arith}
 use native.Mathlib.Decide.{dec_le}
 use lib.ListN.{length, length-append}
 use Rattle.lists.specs.Lists.{all_of}
-use Rattle.answers.specs.declared.Verdict.{Verdict}
-use Rattle.answers.specs.declared.Verdict.TheVariants.{Yes, No}
+use Rattle.answers.specs.Verdicts.{Verdict}
+use Rattle.std.specs.Prelude.{Ok, Err}
 use Rattle.answers.specs.Answers.{first_of, on_yes}
 use Rattle.waveform.specs.declared.Token.{Token}
 use Rattle.waveform.specs.declared.Token.TheVariants as token
@@ -121,8 +121,8 @@ module _ (room : ℕ) (c : Cursor) {r : Closed} (e : r ≡ closed_of room c) whe
       omega (arith, cursor, less)
     where
       by_answer : (v : Verdict) → 0 < on_yes v (length (bytes_of (closing_fitting room c))) 0 → left (on_yes v (after_closing (closing_fitting room c) c) c) < left c
-      by_answer Yes h = fewer room c h
-      by_answer (No x) h = absurd (omega (arith, h))
+      by_answer (Ok tt) h = fewer room c h
+      by_answer (Err x) h = absurd (omega (arith, h))
 
   -- NO MORE BYTES THAN THERE ARE
   pub few_bytes : (more : List ℕ) {exit : List ℕ} → exit ≡ closing_bytes room c ++ more → r.bytes ≤ length exit

@@ -19,26 +19,13 @@ struct Going {
     cursor: Cursor,
 }
 
-// A session and the cursor of its run.
-#[derive(Clone, Copy)]
-struct Running {
-    session: Session,
-    cursor: Cursor,
-}
-
 // The cursor after a line: a run begins with the opening that says yes, and only there.
 fn begun(session: Session, cursor: Cursor) -> Cursor {
-    if !session.opened {
-        return cursor;
+    if session.opened && !session.over && cursor.is_none() {
+        runs::begin(session.desk).unwrap_or(cursor)
+    } else {
+        cursor
     }
-    if session.over {
-        return cursor;
-    }
-    if !cursor.is_none() {
-        return cursor;
-    }
-    let run = runs::begin(session.desk);
-    run.cursor
 }
 
 // How many ticks are left to run after so many steps. With room for every line that is due, a call takes no step only where
@@ -47,29 +34,23 @@ fn left_after(left: u32, steps: u32) -> u32
     requires { (0 < left) × (steps ≤ left) }
     ensures { result < left }
 {
-    if steps == 0 {
-        return 0;
-    }
-    left - steps
+    if steps == 0 { 0 } else { left - steps }
 }
 
 // The ticks that a line left to run, if any.
-fn run<W: Write>(sink: &mut W, out: &mut [u8], running: Running) -> io::Result<Running>
-    ensures { OnErr result (length out.new ≡ length out.old) }
+fn run<W: Write>(sink: &mut W, out: &mut [u8], mut going: Going) -> io::Result<Going>
+    ensures there { IfOk result (λ ran. ran.place ≡ going.place) }
+    ensures failed { OnErr result (length out.new ≡ length out.old) }
 {
-    let mut session = running.session;
-    let mut cursor = running.cursor;
-    while 0 < session.left {
-        let went = runs::go_on(session.desk, cursor, session.left, out);
-        let bytes = went.bytes;
-        sink.write_all(&out[..bytes])?;
-        let left = left_after(session.left, went.steps);
-        let desk = went.desk;
-        session.desk = desk;
-        session.left = left;
-        cursor = went.cursor;
+    while 0 < going.session.left {
+        let left = going.session.left;
+        let went = runs::go_on(going.session.desk, going.cursor, left, out);
+        sink.write_all(&out[..went.bytes])?;
+        going.session.desk = went.desk;
+        going.session.left = left_after(left, went.steps);
+        going.cursor = went.cursor;
     }
-    Ok(Running { session, cursor })
+    Ok(going)
 }
 
 // One line, and its ticks.
@@ -79,32 +60,25 @@ fn hear<W: Write>(input: &[u8], sink: &mut W, out: &mut [u8], going: Going) -> i
     ensures failed { OnErr result (length out.new ≡ length out.old) }
 {
     let read = going.session.read(input, going.place);
-    let place = read.place;
-    let reply = read.reply;
-    let session = reply.session;
-    let cursor = begun(session, going.cursor);
-    let ran = run(sink, out, Running { session, cursor })?;
-    let after = ran.session;
-    let behind = ran.cursor;
-    Ok(Going {
-        session: after,
-        place,
-        cursor: behind,
-    })
+    let session = read.reply.session;
+    let going = Going {
+        session,
+        place: read.place,
+        cursor: begun(session, going.cursor),
+    };
+    run(sink, out, going)
 }
 
 // Closes a run: what is still to be written of it, part by part.
-fn close<W: Write>(sink: &mut W, out: &mut [u8], cursor: Cursor) -> io::Result<()>
+fn close<W: Write>(sink: &mut W, out: &mut [u8], mut cursor: Cursor) -> io::Result<()>
     ensures { OnErr result (length out.new ≡ length out.old) }
 {
-    let mut cursor = cursor;
     while !cursor.is_none() {
         let closed = waveform::parts::close(cursor, out);
-        let bytes = closed.bytes;
-        if bytes == 0 {
+        if closed.bytes == 0 {
             break;
         }
-        sink.write_all(&out[..bytes])?;
+        sink.write_all(&out[..closed.bytes])?;
         cursor = closed.cursor;
     }
     Ok(())
@@ -118,10 +92,7 @@ fn hear_all<W: Write>(input: &[u8], sink: &mut W) -> io::Result<()> {
         place: Place { from: 0, lines: 0 },
         cursor: Cursor::none(),
     };
-    while going.place.from < input.len() {
-        if going.session.over {
-            break;
-        }
+    while going.place.from < input.len() && !going.session.over {
         going = hear(input, sink, &mut out, going)?;
     }
     close(sink, &mut out, going.cursor)

@@ -4,19 +4,15 @@ use Rattle.rehearsal.specs.Session.{tick_of}
 use Rattle.rehearsal.proofs.Replies.{GoodReply, tick_good, tick_less}
 use Rattle.telling.proofs.run.Goals as goal
 
-pub tick-reply-requires : goal.tick-reply-requires
-tick-reply-requires g c = (search rules, c.loop-session.invariant.1.good)
+pub loop-going-smaller : goal.loop-going-smaller
+loop-going-smaller g c =
+    let s = c.loop-going.going.session in
+    let e : c.tick-reply.result.session.left ≡ (tick_of s).session.left = ap (λ r. r.session.left) c.tick-reply.ensures in
+    omega (arith, e, tick_less s (omega arith))
 
-pub loop-session-smaller : goal.loop-session-smaller
-loop-session-smaller g c =
-    let e : c.tick-reply.result.session.left ≡ (tick_of c.loop-session.session).session.left = ap (λ r. r.session.left) c.tick-reply.ensures in
-    omega (arith, e, tick_less c.loop-session.session (omega arith))
-
-pub loop-session-preserved : goal.loop-session-preserved
-loop-session-preserved g c = (
-  search rules,
-  record { good = subst GoodReply (sym c.tick-reply.ensures) (tick_good c.loop-session.session c.loop-session.invariant.1.good); filled = search rules; large = search rules },
-)
-
-pub returns-clause-told : goal.returns-clause-told
-returns-clause-told g c = record { good = c.loop-session.invariant.1.good; filled = search rules; large = search rules }
+pub loop-going-preserved : goal.loop-going-preserved
+loop-going-preserved g c =
+    let s = c.loop-going.going.session in
+    let before = c.loop-going.invariant.1 in
+    let good = subst GoodReply (sym c.tick-reply.ensures) (tick_good s before.buffer.good) in
+    (search rules, record { place = before.place; buffer = record { good = good; filled = search rules; large = search rules } })

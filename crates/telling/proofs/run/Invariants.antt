@@ -1,10 +1,10 @@
 -- Each tick leaves fewer of them, and a good desk.
 use Rattle.std.proofs.Common.{◌≡◌, length}
-use Rattle.telling.specs.Going.{Filled}
+use Rattle.telling.specs.Going.{Ran}
 use Rattle.telling.proofs.run.Given as goal
 
-abbrev pub invariant-loop-session : goal.invariant-loop-session
-invariant-loop-session g l = (length l.out ≡ length l.initial.out) × Filled l.out l.session l.at
+abbrev pub invariant-loop-going : goal.invariant-loop-going
+invariant-loop-going g l = (length l.out ≡ length l.initial.out) × Ran l.out l.initial.going l.going
 
-abbrev pub decreases-loop-session : goal.decreases-loop-session
-decreases-loop-session g l = l.session.left
+abbrev pub decreases-loop-going : goal.decreases-loop-going
+decreases-loop-going g l = l.going.session.left
