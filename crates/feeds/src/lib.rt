@@ -273,7 +273,6 @@ impl Feeds {
     }
 
     // What the current piece of the feed at this position still owes; nothing where there is no such feed.
-
     pub fn owes_at(self, position: u32) -> Length
         requires { self.count ≤ most_feeds }
         ensures { result ≡ ticks (owes_at position 1 (in_use self)) }

@@ -1,13 +1,13 @@
-// Reading into a lent buffer, up to its end.
-// It must not know where the bytes come from, nor what they say.
+// Reading into a lent buffer, up to its end, and the place for more in one whose bytes are written out.
+// It must not know where the bytes come from or go to, nor what they say.
 #![tactic(auto)]
 
-ghost use Rattle.std.specs.Prelude.{◌≡◌, ◌<◌, length, take, IfOk, OnErr};
+ghost use Rattle.std.specs.Prelude.{◌≡◌, ◌⊎◌, ◌+◌, ◌≤◌, ◌<◌, length, take, IfOk, OnErr};
 ghost use Rattle.std.specs.Io.{ReadsAtMost};
 ghost use Rattle.std.specs.Io.KnownBytes.{Consumes, IsAtEnd};
 
 use std::io;
-use std::io::Read;
+use std::io::{Read, Write};
 
 // Reads until the buffer is full or the input ends, and hands out how many bytes it put at the buffer's front.
 // A read that a signal interrupts counts as one that failed.
@@ -26,4 +26,16 @@ pub fn read_full<R: Read>(from: &mut R, buf: &mut [u8]) -> io::Result<usize>
         done += n;
     }
     Ok(done)
+}
+
+// The place for so many bytes more in a lent buffer: what waits there is written first where there may be no room.
+pub fn place_for<W: Write>(sink: &mut W, out: &[u8], at: usize, most: usize) -> io::Result<usize>
+    requires { (at ≤ length out.now) × (most ≤ length out.now) }
+    ensures { IfOk result (λ to. (to + most ≤ length out.now) × ((to ≡ at) ⊎ (to ≡ 0))) }
+{
+    if most <= out.len() - at {
+        return Ok(at);
+    }
+    sink.write_all(&out[..at])?;
+    Ok(0)
 }

@@ -167,9 +167,7 @@ pub fn step(ledger: Ledger) -> Result<Stepped, Refusal>
     requires { InOrder ledger }
     ensures { result ≡ stepped_of ledger }
 {
-    if ledger.clock >= Instant::LAST {
-        return Err(Refusal::PastLast);
-    }
+    Refusal::PastLast.when(ledger.clock >= Instant::LAST)?;
     let front = foremost(ledger);
     let clock = ledger.clock.next();
     let feeds = serve_feeds(ledger.feeds, front.who).arrive(ledger.charge, clock);

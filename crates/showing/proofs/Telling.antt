@@ -1,5 +1,6 @@
 -- Laws on an answer that is told line by line.
 use mathlib.Core.Path.{◌≡◌, refl, sym, ap, subst, ◌∙◌}
+use mathlib.Core.Logic.{◌⊎◌, inl, inr}
 use mathlib.Core.List.{List, [], ◌∷◌, ◌++◌, append_assoc, append-nil}
 use Prim.Native.Nat.{ℕ}
 use lib.ListN.{take}
@@ -22,6 +23,11 @@ none_yet out = record { written = []; whole = refl }
 -- what waited is written
 pub all_written : (out : List ℕ) (at : ℕ) → Kept out at 0
 all_written out at told s = record { written = told; whole = sym (append-nil told) }
+
+-- what is told so far stays where a line finds its place
+pub kept_in_place : (out : List ℕ) (at to : ℕ) → (to ≡ at) ⊎ (to ≡ 0) → Kept out at to
+kept_in_place out at to (inl e) told s = subst (SoFar told out) (sym e) s
+kept_in_place out at to (inr e) told s = subst (SoFar told out) (sym e) (all_written out at told s)
 
 -- a line is put behind what waits
 pub line_added : {out new : List ℕ} {at m to : ℕ} {bytes : List ℕ} → Kept out at m → Put out new m to bytes → Added out new at to bytes

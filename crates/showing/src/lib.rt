@@ -6,7 +6,7 @@ ghost use Rattle.std.specs.Prelude.{◌≡◌, ◌+◌, ◌≤◌, length, IfOk,
 ghost use Rattle.showing.specs.Texts.{most_line, line_of};
 ghost use Rattle.showing.specs.Answers.{Kept, Added, Listed, RunTold, Answered};
 
-use reading::read_full;
+use reading::{place_for, read_full};
 use std::io;
 use std::io::{Read, Write};
 use waveform::stretches::{Bookmark, Stretch, Told};
@@ -26,25 +26,12 @@ pub enum Shown {
 // No longer text is read.
 pub const MOST: usize = 1048576;
 
-// The place for the next line: what waits is written first where there may be no room.
-#[tactic(auto, using(crate::proofs::Telling::all_written))]
-fn place_in<W: Write>(sink: &mut W, out: &[u8], at: usize) -> io::Result<usize>
-    requires { (at ≤ length out.now) × (most_line ≤ length out.now) }
-    ensures { IfOk result (λ to. (to + most_line ≤ length out.now) × Kept out.now at to) }
-{
-    if put::MOST <= out.len() - at {
-        return Ok(at);
-    }
-    sink.write_all(&out[..at])?;
-    Ok(0)
-}
-
 fn tell<W: Write>(sink: &mut W, out: &mut [u8], at: usize, shown: Shown) -> io::Result<usize>
     requires { (at ≤ length out.old) × (most_line ≤ length out.old) }
     ensures told { IfOk result (λ to. (to ≤ length out.old) × Added out.old out.new at to (line_of shown)) }
     ensures failed { OnErr result (length out.new ≡ length out.old) }
 {
-    let to = place_in(sink, out, at)?;
+    let to = place_for(sink, out, at, put::MOST)?;
     Ok(put::line(out, to, shown))
 }
 

@@ -6,7 +6,7 @@ ghost use Rattle.std.specs.Prelude.{◌≡◌, ◌+◌, ◌≤◌, ◌<◌, leng
 ghost use Rattle.sayings.specs.Texts.{most_text};
 ghost use Rattle.telling.specs.Going.{Filled, Ran, Ready, Onto};
 
-use reading::read_full;
+use reading::{place_for, read_full};
 use rehearsal::{Place, Session};
 use sayings::Said;
 use std::io;
@@ -20,24 +20,12 @@ struct Going {
     at: usize,
 }
 
-// The place for the next answer: what waits is written first where there may be no room.
-fn place_in<W: Write>(sink: &mut W, out: &[u8], at: usize) -> io::Result<usize>
-    requires { (at ≤ length out.now) × (most_text ≤ length out.now) }
-    ensures { IfOk result (λ to. to + most_text ≤ length out.now) }
-{
-    if sayings::put::MOST <= out.len() - at {
-        return Ok(at);
-    }
-    sink.write_all(&out[..at])?;
-    Ok(0)
-}
-
 fn tell<W: Write>(sink: &mut W, out: &mut [u8], at: usize, said: Said) -> io::Result<usize>
     requires { (at ≤ length out.old) × (most_text ≤ length out.old) }
     ensures told { IfOk result (λ to. to ≤ length out.old) }
     ensures failed { OnErr result (length out.new ≡ length out.old) }
 {
-    let to = place_in(sink, out, at)?;
+    let to = place_for(sink, out, at, sayings::put::MOST)?;
     Ok(sayings::put::said(out, to, said))
 }
 

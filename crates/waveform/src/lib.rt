@@ -65,10 +65,7 @@ impl Token {
 fn mark(number: Option<u64>) -> Token
     ensures { result ≡ mark_by number }
 {
-    match number {
-        Some(t) => Token::Mark(t),
-        None => Token::Other,
-    }
+    number.map_or(Token::Other, Token::Mark)
 }
 
 // A value by its wire and its digits.

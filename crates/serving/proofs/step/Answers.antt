@@ -1,7 +1,7 @@
 -- `serving::step` meets its contract: line 3, then the tick goes to the foremost piece and the pieces that come are ready.
 use mathlib.Core.Path.{◌≡◌, sym, ap, subst, ◌∙◌}
 use mathlib.Core.Bool.{true, false}
-use mathlib.Core.List.{map}
+use mathlib.Core.List.{[], map}
 use native.Mathlib.Omega.{arith}
 use lib.Dec.{ltb}
 use Rattle.lists.specs.Lists.{Each}
@@ -10,7 +10,10 @@ use Rattle.feeds.specs.Feeds.{FeedIn, in_use, feeds_of, Tidy}
 use Rattle.feeds.specs.Pieces.{arrived}
 use Rattle.feeds.proofs.Passing.{in_use_of}
 use Rattle.jobs.specs.Jobs.{live}
-use Rattle.std.specs.Prelude.{Ok}
+use Rattle.std.specs.Prelude.{Ok, Err}
+use borrow.Author.Rules.{rules}
+use Rattle.answers.specs.declared.Refusal.TheVariants.{PastLast}
+use Rattle.answers.proofs.Answers.{stopped_is, passed_by}
 use Rattle.std.proofs.lemmas.Bool.Decides.{nat_tests}
 use Rattle.edf.specs.Step.{runner}
 use Rattle.ledger.specs.State.{moved}
@@ -22,10 +25,12 @@ use Rattle.serving.proofs.Steps.{owing_jobs, given_feeds, given}
 use Rattle.serving.proofs.Answers.{stepped_refused, front_stepped}
 use Rattle.serving.proofs.step.Goals as goal
 
-pub returns-then-ge : goal.returns-then-ge
-returns-then-ge c =
+pub returns-in_err-when : goal.returns-in_err-when
+returns-in_err-when c =
+    let from : c.from_residual.result ≡ Err c.in_err-when.field-0.0 = search rules in
+    let (holds, which) = stopped_is _ PastLast _ (sym c.when.ensures ∙ c.in_err-when.was) in
     let late : ltb c.args.ledger.clock.0 last_instant ≡ false = grind (arith, nat_tests) in
-    stepped_refused c.args.ledger late
+    from ∙ ap Err which ∙ stepped_refused c.args.ledger late
 
 pub serve_feeds-requires : goal.serve_feeds-requires
 serve_feeds-requires c =
@@ -52,6 +57,7 @@ returns c =
     let served = ap in_use c.serve_feeds.ensures ∙ in_use_of gs in
     let feeds = c.arrive-feeds.ensures ∙ (λ i. feeds_of (map (arrived l.charge (clock i)) (served i))) in
     c.moved.ensures ∙ (λ i. moved l (clock i) (feeds i) (c.serve_jobs-table.ensures i)) in
+    let goes = (passed_by _ PastLast [] _ (sym c.when.ensures ∙ c.in_ok-when.was)).0 in
     let early : ltb c.args.ledger.clock.0 last_instant ≡ true = grind (arith, nat_tests) in
     (λ i. Ok (record { ledger = written i; who = c.foremost-front.result.who; owes = c.owes_then.ensures i }))
     ∙ front_stepped c.args.ledger c.foremost-front.result c.requires c.foremost-front.ensures early
