@@ -4,7 +4,7 @@
 
 ghost use Rattle.std.specs.Prelude.{◌≡◌, ◌⊎◌, ◌+◌, ◌≤◌, ◌<◌, length, take, IfOk, OnErr};
 ghost use Rattle.std.specs.Io.{ReadsAtMost};
-ghost use Rattle.std.specs.Io.KnownBytes.{Consumes, IsAtEnd};
+ghost use Rattle.std.specs.Io.KnownBytes.{Appends, Consumes, IsAtEnd};
 
 use std::io;
 use std::io::{Read, Write};
@@ -31,7 +31,8 @@ pub fn read_full<R: Read>(from: &mut R, buf: &mut [u8]) -> io::Result<usize>
 // The place for so many bytes more in a lent buffer: what waits there is written first where there may be no room.
 pub fn place_for<W: Write>(sink: &mut W, out: &[u8], at: usize, most: usize) -> io::Result<usize>
     requires { (at ≤ length out.now) × (most ≤ length out.now) }
-    ensures { IfOk result (λ to. (to + most ≤ length out.now) × ((to ≡ at) ⊎ (to ≡ 0))) }
+    ensures room { IfOk result (λ to. to + most ≤ length out.now) }
+    ensures place { IfOk result (λ to. (to ≡ at × W.contents sink.new ≡ W.contents sink.old) ⊎ (to ≡ 0 × Appends (W.contents sink.old) (W.contents sink.new) (take at out.now))) }
 {
     if most <= out.len() - at {
         return Ok(at);

@@ -25,9 +25,9 @@ pub all_written : (out : List ℕ) (at : ℕ) → Kept out at 0
 all_written out at told s = record { written = told; whole = sym (append-nil told) }
 
 -- what is told so far stays where a line finds its place
-pub kept_in_place : (out : List ℕ) (at to : ℕ) → (to ≡ at) ⊎ (to ≡ 0) → Kept out at to
-kept_in_place out at to (inl e) told s = subst (SoFar told out) (sym e) s
-kept_in_place out at to (inr e) told s = subst (SoFar told out) (sym e) (all_written out at told s)
+pub kept_in_place : {P Q : Type 0} (out : List ℕ) (at to : ℕ) → (to ≡ at × P) ⊎ (to ≡ 0 × Q) → Kept out at to
+kept_in_place out at to (inl e) told s = subst (SoFar told out) (sym e.0) s
+kept_in_place out at to (inr e) told s = subst (SoFar told out) (sym e.0) (all_written out at told s)
 
 -- a line is put behind what waits
 pub line_added : {out new : List ℕ} {at m to : ℕ} {bytes : List ℕ} → Kept out at m → Put out new m to bytes → Added out new at to bytes
