@@ -32,7 +32,8 @@ pub fn read_full<R: Read>(from: &mut R, buf: &mut [u8]) -> io::Result<usize>
 pub fn place_for<W: Write>(sink: &mut W, out: &[u8], at: usize, most: usize) -> io::Result<usize>
     requires { (at ≤ length out.now) × (most ≤ length out.now) }
     ensures room { IfOk result (λ to. to + most ≤ length out.now) }
-    ensures place { IfOk result (λ to. (to ≡ at × W.contents sink.new ≡ W.contents sink.old) ⊎ (to ≡ 0 × Appends (W.contents sink.old) (W.contents sink.new) (take at out.now))) }
+    ensures place { IfOk result (λ to. (to ≡ at × (at + most ≤ length out.now × W.contents sink.new ≡ W.contents sink.old)) ⊎ (to ≡ 0 × (length out.now < at + most × Appends (W.contents sink.old) (W.contents sink.new) (take at out.now)))) }
+    ensures failed { OnErr result (length out.now < at + most) }
 {
     if most <= out.len() - at {
         return Ok(at);
