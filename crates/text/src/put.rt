@@ -15,8 +15,11 @@ pub fn text(out: &mut [u8], at: usize, bytes: &[u8]) -> usize
     requires { at + length bytes.now ≤ length out.old }
     ensures { Put out.old out.new at result bytes.now }
 {
-    out[at..at + bytes.len()].copy_from_slice(bytes);
-    at + bytes.len()
+    let mut to = at;
+    for b in bytes {
+        to = byte(out, to, *b);
+    }
+    to
 }
 
 // In a base from 2 to 10.
