@@ -158,7 +158,11 @@ fn serve_jobs(table: Table, who: Who) -> Table
 fn owes_then(front: Piece) -> Length
     ensures { result ≡ ticks (pred front.owes.0) }
 {
-    Length(front.owes.0.saturating_sub(1))
+    if front.owes == Length::NONE {
+        Length::NONE
+    } else {
+        front.owes.one_less()
+    }
 }
 
 // One step on a state in order: line 3; then the tick goes to the foremost piece, the clock goes on, and the pieces that

@@ -2,8 +2,9 @@
 // It must not know the desk, nor who may run when.
 #![tactic(auto)]
 
-ghost use Rattle.std.specs.Prelude.{◌≡◌, ◌&&◌, [], Some, None, cond, get_or, leb};
+ghost use Rattle.std.specs.Prelude.{◌≡◌, ◌&&◌, [], Some, None, cond, get_or, leb, ltb};
 ghost use Rattle.lists.specs.Lists.{bit};
+ghost use Rattle.ticks.specs.Ticks.{last_instant};
 ghost use Rattle.feeds.specs.Feeds.{most_feeds};
 ghost use Rattle.waveform.specs.Bytes.{head_lines, head_in, mark_by, Narrow, value_by, value_of, says};
 ghost use Rattle.waveform.specs.Reading.{alone, ran, headed, opens, jobbed, goes_to, halfway, after_feed, turned, through};
@@ -52,9 +53,6 @@ pub struct Whole {
 // The number of the first line that no text of a run has there.
 #[derive(Clone, Copy)]
 pub struct WrongLine(pub usize);
-
-// The last instant of the clock, as marks tell it.
-const LAST: u64 = Instant::LAST.0;
 
 impl Token {
     // How many lines stand in front of every run.
@@ -143,6 +141,13 @@ fn may_go(job: u32, feed: u32) -> bool
     alone(job, feed) && feed as usize <= Feed::MOST
 }
 
+// Whether a mark may tell this instant behind that one: it is later, and the clock can read it.
+fn may_come(at: u64, to: u64) -> bool
+    ensures { result ≡ ltb at to && leb to last_instant }
+{
+    Instant(at) < Instant(to) && Instant(to).within()
+}
+
 impl State {
     // How far the text has come after one line more.
     pub fn next(self, token: Token) -> State
@@ -151,19 +156,19 @@ impl State {
         use State::{Dead, Going, Halfway, Heading, Jobbed, Marked, Opened};
         match (self, token) {
             (Heading(k), Token::Head(head)) if head == k && k < Token::HEADS => Heading(k + 1),
-            (Heading(Token::HEADS), Token::Mark(at)) if at <= LAST => Opened(at),
-            (Opened(at), Token::Job(job)) if at < LAST => Jobbed(at, job),
+            (Heading(Token::HEADS), Token::Mark(at)) if Instant(at).within() => Opened(at),
+            (Opened(at), Token::Job(job)) if Instant(at) < Instant::LAST => Jobbed(at, job),
             (Jobbed(at, job), Token::Feed(feed)) if may_go(job, feed) => Going(at, job, feed),
-            (Going(at, job, feed), Token::Mark(to)) if at < to && to <= LAST => Marked(
-                to, job, feed,
-            ),
-            (Marked(at, job, feed), Token::Job(new)) if at < LAST && new != job => Halfway(
-                at, new, feed,
-            ),
+            (Going(at, job, feed), Token::Mark(to)) if may_come(at, to) => Marked(to, job, feed),
+            (Marked(at, job, feed), Token::Job(new)) if Instant(at) < Instant::LAST && new != job =>
+                { Halfway(at, new, feed) }
             (Marked(at, job, feed), Token::Feed(new))
-                if at < LAST && new != feed && may_go(job, new) => Going(at, job, new),
-            (Halfway(at, job, feed), Token::Mark(to))
-                if alone(job, feed) && at < to && to <= LAST => Marked(to, job, feed),
+                if Instant(at) < Instant::LAST && new != feed && may_go(job, new) => Going(
+                at, job, new,
+            ),
+            (Halfway(at, job, feed), Token::Mark(to)) if alone(job, feed) && may_come(at, to) => {
+                Marked(to, job, feed)
+            }
             (Halfway(at, job, feed), Token::Feed(new)) if new != feed && may_go(job, new) => Going(
                 at, job, new,
             ),
