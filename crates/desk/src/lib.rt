@@ -10,6 +10,8 @@ ghost use Rattle.listing.specs.Labels.{label_of, PartAt};
 ghost use Rattle.std.specs.Prelude.{Ok};
 ghost use Rattle.answers.specs.Answers.{first_of, yes_with};
 ghost use Rattle.shares.specs.Shares.{is_share};
+ghost use Rattle.ledger.specs.State.{InOrder};
+ghost use Rattle.serving.specs.Tick.{stepped_of};
 ghost use Rattle.desk.specs.State.{empty, with, sharing, since, in_order};
 ghost use Rattle.desk.specs.Answers.{handed};
 ghost use Rattle.desk.specs.Opening.{front_lines, opened_desk, opened_of, opened_shared_of};
@@ -75,6 +77,7 @@ impl Stepped {
 
 impl Answer {
     // A call that is refused hands back the state it was given.
+    #[inline(always)]
     pub fn of(given: Desk, after: Result<Desk, Refusal>) -> Answer
         ensures { result ≡ handed given after }
     {
@@ -191,7 +194,16 @@ impl Desk {
         ensures { stepped_desk self result ≡ step_of self }
     {
         Refusal::NotInOrder.when(!self.in_order())?;
-        serving::step(self.ledger)
+        Desk::served(self.ledger)
+    }
+
+    // A step of a state that was found in order, in a place of its own: the stack of the look and of the step is not taken at once.
+    #[inline(never)]
+    fn served(ledger: Ledger) -> Result<serving::Stepped, Refusal>
+        requires { InOrder ledger }
+        ensures { result ≡ stepped_of ledger }
+    {
+        serving::step(ledger)
     }
 
     // Lines 13 and 7 of an end.
@@ -281,6 +293,7 @@ impl Desk {
     }
 
     // Line 6: the request is taken exactly if it fits.
+    #[inline(always)]
     fn admit(self, job: Job) -> Result<Desk, Refusal>
         requires { Admissible self job }
         ensures { Judged self job (handed self result) }
@@ -292,12 +305,14 @@ impl Desk {
     }
 
     // Asking for a job.
+    #[inline(always)]
     pub fn ask(self, number: u32, work: u32, lead: u32) -> Answer
         ensures { Asked self number work lead result }
     {
         Answer::of(self, self.taken(number, work, lead))
     }
 
+    #[inline(always)]
     fn taken(self, number: u32, work: u32, lead: u32) -> Result<Desk, Refusal>
         ensures { Asked self number work lead (handed self result) }
     {
@@ -330,6 +345,7 @@ impl Desk {
         Answer::of(self, self.taken_undated(number, work))
     }
 
+    #[inline(always)]
     fn taken_undated(self, number: u32, work: u32) -> Result<Desk, Refusal>
         ensures { AskedUndated self number work (handed self result) }
     {

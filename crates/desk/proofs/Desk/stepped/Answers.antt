@@ -16,12 +16,12 @@ returns-in_err-when c =
     let told : c.from_residual.result ≡ Err c.in_err-when.field-0.0 = search rules in
     ap (stepped_desk c.args.self) (told ∙ ap Err no.1) ∙ step_stopped c.args.self (sym c.in_order.ensures ∙ not-true _ no.0)
 
-pub step-requires : goal.step-requires
-step-requires c =
+pub served-requires : goal.served-requires
+served-requires c =
     let fine : in_order c.args.self ≡ true = sym c.in_order.ensures ∙ not-false _ (passed_by (not c.in_order.result) NotInOrder [] _ (sym c.in_ok-when.ensures)).0 in
     in_order_lem _ (record { feeds = search (rules, length_mapped); jobs = search (rules, length_mapped) }) fine
 
 pub returns : goal.returns
 returns c =
     let fine : in_order c.args.self ≡ true = sym c.in_order.ensures ∙ not-false _ (passed_by (not c.in_order.result) NotInOrder [] _ (sym c.in_ok-when.ensures)).0 in
-    ap (stepped_desk c.args.self) c.step.ensures ∙ step_by_serving c.args.self fine
+    ap (stepped_desk c.args.self) c.served.ensures ∙ step_by_serving c.args.self fine
