@@ -9,5 +9,5 @@ returns c =
     let e = c.from.ensures in
     let l = rw e at c.ilog.ensures.power_le in
     let h = rw e at c.ilog.ensures.next_power_gt in
-    let width : c.ilog.result + 1 ≡ length (numeral c.args.base c.args.n) = digits_by_logarithm _ c.requires _ _ _ c.max.ensures l h in
+    let width : c.ilog.result + 1 ≡ length (numeral c.args.base c.args.n) = digits_by_logarithm _ c.requires c.args.n _ _ (omega (arith, c.max.ensures)) l h in
     (width, omega (arith, digits_few _ c.requires c.args.n (omega arith)))
